@@ -1,0 +1,8 @@
+// A load sheet: up to 64 tasks, up to 16 processors, a frame, and the ticks of each pair.
+mod calls;
+mod refusals;
+mod sheet;
+mod table;
+
+pub use refusals::SheetRefusal;
+pub use sheet::Sheet;
