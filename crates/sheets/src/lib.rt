@@ -5,4 +5,7 @@ mod sheet;
 mod table;
 
 pub use refusals::SheetRefusal;
+pub use refusals::SheetRefusalDebug;
+pub use refusals::SheetRefusalEq;
+pub use refusals::SheetRefusalPartialEq;
 pub use sheet::Sheet;

@@ -1,0 +1,4 @@
+pub mod Steps
+pub mod Records
+pub mod Accepted
+pub mod Back
