@@ -4,8 +4,7 @@ ghost use mathlib.Core.Bool.{cond};
 ghost use Prim.Native.Nat.{ℕ};
 ghost use lib.Dec.{ltb};
 ghost use Rattle.std.specs.declared.option.Option.the-variants.{Some, None};
-ghost use Rattle.sheets.specs.Calls.{blank, after-open, after-set, after-withdraw, after-reframe, open-answer, set-answer, withdraw-answer, reframe-answer, look-answer};
-ghost use Rattle.sheets.specs.Cells.{cell};
+ghost use Rattle.sheets.specs.Calls.{blank, after-open, after-set, after-withdraw, after-reframe, open-answer, set-answer, withdraw-answer, reframe-answer};
 ghost use Rattle.sheets.specs.Sheets.{load-of};
 use crate::refusals::SheetRefusal;
 use crate::sheet::Sheet;
@@ -14,7 +13,7 @@ use crate::table::Table;
 const MOST: u32 = 1_000_000_000;
 
 // The index, where it is below the bound.
-fn below(index: usize, bound: usize) -> Option<usize>
+pub(crate) fn below(index: usize, bound: usize) -> Option<usize>
     ensures { λ r. ⌜ r ≡ cond (ltb index bound) (Some index) None ⌝ }
 {
     if index < bound { Some(index) } else { None }
@@ -44,13 +43,10 @@ impl Sheet {
         let 1..=16 = processors else {
             return Err(SheetRefusal::ProcessorsOutOfRange);
         };
-        let 1..=MOST = frame else {
-            return Err(SheetRefusal::FrameOutOfRange);
-        };
+        self.reframe(frame)?;
         self.table.clear();
         self.tasks = tasks;
         self.processors = processors;
-        self.frame = frame;
         Ok(())
     }
 
@@ -94,43 +90,5 @@ impl Sheet {
         };
         self.frame = frame;
         Ok(())
-    }
-
-    /// The ticks of one pair.
-    pub fn look(&self, task: usize, processor: usize) -> Result<u32, SheetRefusal>
-        ensures { λ r. ⌜ r ≡ look-answer (load-of (now (self .entry))) task processor ⌝ }
-    {
-        let Some(task) = below(task, self.tasks) else {
-            return Err(SheetRefusal::TaskOutOfRange);
-        };
-        let Some(processor) = below(processor, self.processors) else {
-            return Err(SheetRefusal::ProcessorOutOfRange);
-        };
-        Ok(self.table.at(task, processor))
-    }
-
-    pub fn tasks(&self) -> usize
-        ensures { λ r. ⌜ r ≡ load-of (now (self .entry)) .tasks ⌝ }
-    {
-        self.tasks
-    }
-
-    pub fn processors(&self) -> usize
-        ensures { λ r. ⌜ r ≡ load-of (now (self .entry)) .processors ⌝ }
-    {
-        self.processors
-    }
-
-    pub fn frame(&self) -> u32
-        ensures { λ r. ⌜ r ≡ load-of (now (self .entry)) .frame ⌝ }
-    {
-        self.frame
-    }
-
-    /// The ticks of every pair, a line of 16 for each of 64 tasks; 0 outside the sheet.
-    pub fn lines(&self) -> [[u32; 16]; 64]
-        ensures { λ r. ⌜ cell r ≡ load-of (now (self .entry)) .ticks ⌝ }
-    {
-        self.table.lines()
     }
 }

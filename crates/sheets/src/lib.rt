@@ -3,6 +3,7 @@ mod calls;
 mod refusals;
 mod sheet;
 mod table;
+mod views;
 
 pub use refusals::SheetRefusal;
 pub use refusals::SheetRefusalDebug;
