@@ -3,11 +3,18 @@ use mathlib.Core.Bool.{cond, _&&_}
 use mathlib.Core.List.{List, []}
 use Prim.Native.Nat.{ℕ}
 use lib.Dec.{eqb}
-use lib.ListN.{getD}
+use lib.ListN.{getD, replicate}
 
 -- the ticks of processor p in line t
 abbrev pub cell : List (List ℕ) → ℕ → ℕ → ℕ
 cell rows t p = getD (getD rows t []) p 0
+
+-- a line of 16 pairs without ticks, and 64 of them
+abbrev pub no-line : List ℕ
+no-line = replicate 16 0
+
+abbrev pub no-lines : List (List ℕ)
+no-lines = replicate 64 no-line
 
 abbrev pub nothing : ℕ → ℕ → ℕ
 nothing _ _ = 0

@@ -1,24 +1,25 @@
 // The ticks of each pair, in 64 lines of 16.
 ghost use mathlib.Core.Path.{_≡_};
 ghost use Prim.Native.Nat.{ℕ, _<_};
-ghost use Rattle.sheets.specs.Cells.{cell, written, cleared, nothing};
+ghost use lib.ListN.{length, set};
+ghost use Rattle.sheets.specs.Cells.{cell, written, no-line, no-lines};
 ghost use Rattle.sheets.specs.Tables.{tick-at};
 
 #[derive(Clone, Copy)]
-pub struct Table {
+pub(crate) struct Table {
     ticks: [[u32; 16]; 64],
 }
 
 impl Table {
-    pub fn empty() -> Table
-        ensures { λ r. ⌜ tick-at r ≡ nothing ⌝ }
+    pub(crate) fn empty() -> Table
+        ensures { λ r. ⌜ r .ticks ≡ no-lines ⌝ }
     {
         Table {
             ticks: [[0; 16]; 64],
         }
     }
 
-    pub fn at(&self, task: usize, processor: usize) -> u32
+    pub(crate) fn at(&self, task: usize, processor: usize) -> u32
         requires { ⌜ task < 64 ⌝ }
         requires { ⌜ processor < 16 ⌝ }
         ensures { λ r. ⌜ r ≡ tick-at (now (self .entry)) task processor ⌝ }
@@ -26,7 +27,7 @@ impl Table {
         self.ticks[task][processor]
     }
 
-    pub fn put(&mut self, task: usize, processor: usize, ticks: u32)
+    pub(crate) fn put(&mut self, task: usize, processor: usize, ticks: u32)
         requires { ⌜ task < 64 ⌝ }
         requires { ⌜ processor < 16 ⌝ }
         ensures { λ _. ⌜ tick-at (now (self .exit)) ≡ written (tick-at (now (self .entry))) task processor ticks ⌝ }
@@ -35,20 +36,21 @@ impl Table {
         line[processor] = ticks;
     }
 
-    pub fn clear_line(&mut self, task: usize)
+    pub(crate) fn clear_line(&mut self, task: usize)
         requires { ⌜ task < 64 ⌝ }
-        ensures { λ _. ⌜ tick-at (now (self .exit)) ≡ cleared (tick-at (now (self .entry))) task ⌝ }
+        ensures line { λ _. ⌜ now (self .exit) .ticks ≡ set (now (self .entry) .ticks) task no-line ⌝ }
+        ensures tall { λ _. ⌜ length (now (self .entry) .ticks) ≡ 64 ⌝ }
     {
         self.ticks[task] = [0; 16];
     }
 
-    pub fn clear(&mut self)
-        ensures { λ _. ⌜ tick-at (now (self .exit)) ≡ nothing ⌝ }
+    pub(crate) fn clear(&mut self)
+        ensures { λ _. ⌜ now (self .exit) .ticks ≡ no-lines ⌝ }
     {
         self.ticks = [[0; 16]; 64];
     }
 
-    pub fn lines(&self) -> [[u32; 16]; 64]
+    pub(crate) fn lines(&self) -> [[u32; 16]; 64]
         ensures { λ r. ⌜ cell r ≡ tick-at (now (self .entry)) ⌝ }
     {
         self.ticks
