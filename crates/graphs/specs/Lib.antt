@@ -1,2 +1,3 @@
 pub mod Graphs
 pub mod Covers
+pub mod Search

@@ -4,6 +4,9 @@ mod reader;
 
 pub use faults::ByteFault;
 pub use faults::Fault;
+pub use faults::FaultDebug;
+pub use faults::FaultEq;
+pub use faults::FaultPartialEq;
 pub use faults::Layer;
 pub use faults::PlanFault;
 pub use faults::RecordFault;

@@ -1,0 +1,4 @@
+pub mod Listing
+pub mod Lines
+pub mod Numbers
+pub mod Refusing

@@ -1,0 +1,23 @@
+// The listing of a template, a line of its numbers and a line for each slot; or of a refusal, one line.
+mod layouts;
+mod line;
+mod listing;
+mod pushes;
+mod refusals;
+#[cfg(test)]
+mod tests;
+mod texts;
+
+pub use listing::list;
+pub use refusals::BuildToRefusal;
+pub use refusals::FaultToRefusal;
+pub use refusals::ListRefusal;
+pub use refusals::ListRefusalDebug;
+pub use refusals::ListRefusalEq;
+pub use refusals::ListRefusalPartialEq;
+pub use refusals::Refusal;
+pub use refusals::RefusalDebug;
+pub use refusals::RefusalEq;
+pub use refusals::RefusalPartialEq;
+pub use refusals::SheetToRefusal;
+pub use refusals::TemplateToRefusal;

@@ -1,0 +1,9 @@
+pub mod Rows
+pub mod Weaving
+pub mod Laying
+pub mod Plannable
+pub mod Searching
+pub mod Pairings
+pub mod Hall
+pub mod Joining
+pub mod Covers

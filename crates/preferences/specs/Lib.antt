@@ -1,0 +1,3 @@
+pub mod Preferences
+pub mod Numbers
+pub mod Reach
