@@ -40,27 +40,8 @@ module _ (left : Load) (row : Row) (cover : Cover (graph left) (marks left) row)
   pub least-none : 0 < left .processors → Least left row 0 0 (left .frame)
   least-none some = record { pairs = λ p t h e. absurd (omega arith); processors = λ p h e. absurd (omega arith); tasks = λ t h e. absurd (omega arith); most = may-within some }
 
-  pub lasts-idle : (p : ℕ) → p < left .processors → at row p ≡ None → Processor-lasts left row p (left .frame - processor-total left p)
-  lasts-idle p h none =
-      record {
-        pair = λ t e. absurd (none-or-some (at row p) t none e);
-        idle = λ e. omega (arith, within .processors p h);
-        most = λ e may. omega (arith, may .processors p h none);
-      }
-
   pub lasts-named : 0 < left .processors → (t p : ℕ) → p < left .processors → at row p ≡ Some t → Task-lasts left row t (left .frame)
   lasts-named some t p h e = record { idle = λ none. absurd (none p h e); most = may-within some }
-
-  pub lasts-unnamed : (t : ℕ) → t < left .tasks → ((p : ℕ) → p < left .processors → at row p ≡ Some t → ⊥) → Task-lasts left row t (left .frame - task-total left t)
-  lasts-unnamed t h none = record { idle = λ _. omega (arith, within .tasks t h); most = λ e may. omega (arith, may .tasks t h none) }
-
-pub lasts-pair : (left : Load) (row : Row) (p t x : ℕ) → p < left .processors → at row p ≡ Some t → x ≡ left .ticks t p → Processor-lasts left row p x
-lasts-pair left row p t x h is value =
-    record {
-      pair = λ u e. omega (arith, ap (λ v. left .ticks v p) (same-entry (at row p) t u is e));
-      idle = λ none. absurd (none-or-some (at row p) t none is);
-      most = λ e may. omega (arith, may .pairs p t h is);
-    }
 
 pub least-processor : (left : Load) (row : Row) (i x y z : ℕ) → Least left row i 0 x → Processor-lasts left row i y → z ≡ min x y → Least left row (i + 1) 0 z
 least-processor left row i x y z least here value =

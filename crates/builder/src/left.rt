@@ -4,7 +4,7 @@ ghost use Rattle.sheets.specs.Cells.{cell};
 
 // What is left to lay of a sheet; its frame is the ticks not yet laid.
 #[derive(Clone, Copy)]
-pub struct Left {
+pub(crate) struct Left {
     pub(crate) tasks: usize,
     pub(crate) processors: usize,
     pub(crate) frame: u32,
@@ -23,4 +23,4 @@ mod marking;
 mod scans;
 mod totals;
 
-pub use edges::LeftGraph;
+pub(crate) use edges::LeftGraph;

@@ -2,7 +2,6 @@
 use mathlib.Core.List.{List, [], _++_}
 use Prim.Native.Nat.{ℕ}
 use lib.Chars.{codes}
-use denote.Ref.{RefT, now}
 use Rattle.std.specs.Written.{decimal}
 use Rattle.std.specs.declared.option.Option.the-variants.{Some, None}
 use Rattle.std.specs.declared.result.Result.{Result}
@@ -12,8 +11,6 @@ use Rattle.builder.specs.declared.lines.Line.the-variants.{Task, Processor}
 use Rattle.builder.specs.declared.refusals.BuildRefusal.the-variants.{NoPlan, NoRoom}
 use Rattle.planfiles.specs.Numbers.{underneath}
 use Rattle.templates.specs.Layouts.{Layout}
-use Rattle.templates.specs.Templates.{layout-of}
-use Rattle.templates.specs.declared.template.Template.{Template as Templet}
 use Rattle.listings.specs.Listing.{Listed, line-end, template-text}
 use Rattle.listings.specs.Numbers.{number-of}
 use Rattle.listings.specs.declared.refusals.Refusal.{Refusal}
@@ -40,11 +37,6 @@ refusal-text refusal = codes "refused " ++ (decimal (number-of refusal) ++ (deta
 -- the text of a whole template
 abbrev pub layout-text : Layout → List ℕ
 layout-text l = template-text (l .tasks) (l .processors) (l .frame) (l .slots)
-
--- the text of a template, or of why there is none
-abbrev pub outcome-text : Result (RefT Templet) Refusal → List ℕ
-outcome-text (Ok template) = layout-text (layout-of (now template))
-outcome-text (Err refusal) = refusal-text refusal
 
 -- a listing's answer: the length, or the one refusal
 abbrev pub Answered : List ℕ → List ℕ → List ℕ → Result ℕ ListRefusal → Type 0

@@ -8,7 +8,9 @@ mod refusals;
 mod tests;
 mod texts;
 
-pub use listing::list;
+pub use listing::Listable;
+pub use listing::RefusalListing;
+pub use listing::TemplateListing;
 pub use refusals::BuildToRefusal;
 pub use refusals::FaultToRefusal;
 pub use refusals::ListRefusal;

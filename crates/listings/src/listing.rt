@@ -1,11 +1,11 @@
 // The calls that list.
 ghost use mathlib.Core.Path.{_≡_};
-ghost use mathlib.Core.List.{_++_};
+ghost use mathlib.Core.List.{List, _++_};
 ghost use Prim.Native.Nat.{ℕ, _+_, _≤_};
 ghost use lib.ListN.{length};
 ghost use Rattle.listings.specs.Lines.{text-of};
 ghost use Rattle.listings.specs.Listing.{line-end};
-ghost use Rattle.listings.specs.Refusing.{Answered, outcome-text, layout-text, refusal-text, over-text, details-text};
+ghost use Rattle.listings.specs.Refusing.{Answered, layout-text, refusal-text, over-text, details-text};
 ghost use Rattle.listings.specs.declared.refusals.Refusal.the-variants.{File};
 ghost use Rattle.templates.specs.Templates.{layout-of};
 use crate::layouts::list_line;
@@ -63,31 +63,35 @@ fn refusal_line(refusal: Refusal) -> Line
     line
 }
 
-fn list_template(template: &Template, output: &mut [u8]) -> Result<usize, ListRefusal>
-    ensures { λ r. ⌜ Answered (layout-text (layout-of (now (template .entry)))) (now (output .entry)) (now (output .exit)) r ⌝ }
-{
-    let listed = list_slots(
-        template.tasks(),
-        template.processors(),
-        template.frame(),
-        template.slots(),
-        output,
-    );
-    listed.ok_or(ListRefusal::OutputTooShort)
+/// What can be listed: a template, or why there is none.
+pub trait Listable {
+    /// The bytes of the listing.
+    ghost text: { Self → List ℕ };
+
+    /// Writes the listing into the first places of the output, and says how long it is.
+    fn list(&self, output: &mut [u8]) -> Result<usize, ListRefusal>
+        ensures { λ r. ⌜ Answered (text (now (self .entry))) (now (output .entry)) (now (output .exit)) r ⌝ };
 }
 
-fn list_refusal(refusal: Refusal, output: &mut [u8]) -> Result<usize, ListRefusal>
-    ensures { λ r. ⌜ Answered (refusal-text refusal) (now (output .entry)) (now (output .exit)) r ⌝ }
-{
-    list_line(&refusal_line(refusal), output).ok_or(ListRefusal::OutputTooShort)
+pub impl Listable for Template as TemplateListing {
+    ghost text = { λ t. layout-text (layout-of t) };
+
+    fn list(&self, output: &mut [u8]) -> Result<usize, ListRefusal> {
+        let listed = list_slots(
+            self.tasks(),
+            self.processors(),
+            self.frame(),
+            self.slots(),
+            output,
+        );
+        listed.ok_or(ListRefusal::OutputTooShort)
+    }
 }
 
-/// Writes the listing of a template, or of why there is none, into the first places of the output, and says how long it is.
-pub fn list(outcome: Result<&Template, Refusal>, output: &mut [u8]) -> Result<usize, ListRefusal>
-    ensures { λ r. ⌜ Answered (outcome-text (outcome .entry)) (now (output .entry)) (now (output .exit)) r ⌝ }
-{
-    match outcome {
-        Ok(template) => list_template(template, output),
-        Err(refusal) => list_refusal(refusal, output),
+pub impl Listable for Refusal as RefusalListing {
+    ghost text = { λ r. refusal-text r };
+
+    fn list(&self, output: &mut [u8]) -> Result<usize, ListRefusal> {
+        list_line(&refusal_line(*self), output).ok_or(ListRefusal::OutputTooShort)
     }
 }

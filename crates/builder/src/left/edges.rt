@@ -4,7 +4,7 @@ use crate::left::Left;
 use graphs::Graph;
 
 // An edge is a pair with ticks left.
-pub impl Graph for Left as LeftGraph {
+pub(crate) impl Graph for Left as LeftGraph {
     ghost shape = { λ s. graph (left-of s) };
 
     fn firsts(&self) -> usize {

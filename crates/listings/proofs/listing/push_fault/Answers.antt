@@ -17,8 +17,8 @@ returns c =
     let under : List ℕ = codes " by " ++ decimal (underneath (c .args .fault)) in
     record {
       text =
-        joins before (text-of (c .push-field .last .self)) (text-of (c .push-field-2 .last .self)) place under (c .push-field .ensures .text)
+          joins before (text-of (c .push-field .last .self)) (text-of (c .push-field-2 .last .self)) place under (c .push-field .ensures .text)
           (c .push-field-2 .ensures .text ∙ ap (λ (n : ℕ). text-of (c .push-field .last .self) ++ (codes " by " ++ decimal n)) (c .underneath .ensures))
-        ∙ ap (λ (v : List ℕ). before ++ v) (append-assoc (codes " at ") (decimal (c .args .fault .place)) under);
+          ∙ ap (λ (v : List ℕ). before ++ v) (append-assoc (codes " at ") (decimal (c .args .fault .place)) under);
       short = omega (arith, c .push-field .ensures .short, c .push-field-2 .ensures .short);
     }
