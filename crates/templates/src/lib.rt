@@ -5,6 +5,7 @@ mod questions;
 mod refusals;
 mod store;
 mod template;
+mod views;
 
 pub use laws::adopts_exactly_the_sound;
 pub use refusals::TemplateRefusal;

@@ -47,7 +47,7 @@ fn slot_asked(
 }
 
 // Asks each slot in order, then whether they add up to the frame.
-pub fn slots_asked(
+pub(crate) fn slots_asked(
     slots: &[Slot],
     tasks: usize,
     processors: usize,

@@ -7,17 +7,17 @@ ghost use Rattle.templates.specs.Layouts.{idle-slot};
 ghost use Rattle.templates.specs.Stores.{held};
 use builder::Slot;
 
-pub const ROOM: usize = 1_104;
+pub(crate) const ROOM: usize = 1_104;
 
 #[derive(Clone, Copy)]
-pub struct Store {
+pub(crate) struct Store {
     slots: [Slot; ROOM],
     count: usize,
 }
 
 impl Store {
     // One idle slot of one tick.
-    pub fn idle() -> Store
+    pub(crate) fn idle() -> Store
         ensures few { λ r. ⌜ r .count ≤ 1104 ⌝ }
         ensures holds { λ r. ⌜ held r ≡ idle-slot 1 ∷ [] ⌝ }
     {
@@ -32,7 +32,7 @@ impl Store {
     }
 
     // Takes these slots in place of the ones before.
-    pub fn replace(&mut self, slots: &[Slot])
+    pub(crate) fn replace(&mut self, slots: &[Slot])
         requires { ⌜ length (now slots) ≤ 1104 ⌝ }
         ensures few { λ _. ⌜ now (self .exit) .count ≤ 1104 ⌝ }
         ensures holds { λ _. ⌜ held (now (self .exit)) ≡ now (slots .entry) ⌝ }
@@ -42,7 +42,7 @@ impl Store {
     }
 
     // The slots in use.
-    pub fn all(&self) -> &[Slot]
+    pub(crate) fn all(&self) -> &[Slot]
         requires { ⌜ now self .count ≤ 1104 ⌝ }
         ensures { λ r. ⌜ now r ≡ held (now (self .entry)) ⌝ }
     {

@@ -14,7 +14,7 @@ list-slots-listed-requires c κs =
     let processors : c .args .self .now .processors ≤ 16 = ∥∥₁-elim (t .sound) le-prop (λ s. s .processors-most) in
     let few : length (layout-of (c .args .self .now) .slots) ≤ 1104 = ∥∥₁-elim (t .sound) le-prop (λ s. s .slots-most) in
     record {
-      tasked = omega (arith, c .tasks .ensures);
-      manned = omega (arith, c .processors .ensures);
+      tasked = omega arith;
+      manned = omega arith;
       few = omega (arith, ap length (c .slots .ensures));
     }
