@@ -20,7 +20,8 @@ use Rattle.planfiles.specs.declared.faults.Layer.{Layer}
 use Rattle.planfiles.specs.declared.faults.Layer.the-variants.{Bytes, Records, Plan}
 use Rattle.planfiles.specs.declared.faults.Fault.{Fault}
 use Rattle.planfiles.specs.Records.{number, size-of, sized, whole-answer, fields-answer, planned, and-then, in-order, Passed}
-use Rattle.planfiles.specs.Reading.{number-at, header-answer, opened-load, load-answer, Read, fault, on, over, other, read-loads, next-read, read-sheet, taken, located}
+use Rattle.planfiles.specs.Reading.{number-at, header-answer, opened-load, Read, fault, on, over, other, read-loads, read-sheet}
+use Rattle.planfiles.specs.Steps.{load-answer, next-read, taken, located}
 use Rattle.sheets.specs.Sheets.{load-of}
 use Rattle.sheets.specs.declared.sheet.Sheet.{Sheet}
 use denote.Ref.{RefT}

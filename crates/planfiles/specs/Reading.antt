@@ -1,12 +1,9 @@
 -- What a list of bytes says.
-use mathlib.Core.Path.{_≡_}
-use mathlib.Core.Bool.{Bool, true, false, cond, _&&_, _||_}
+use mathlib.Core.Bool.{cond}
 use mathlib.Core.List.{List, [], _∷_}
 use Prim.Native.Nat.{ℕ, _+_}
-use lib.Dec.{leb, ltb, eqb}
-use lib.ListN.{length, getD, drop}
-use denote.Ref.{RefT, now}
-use Rattle.std.specs.Results.{Cases}
+use lib.Dec.{eqb}
+use lib.ListN.{getD, drop}
 use Rattle.std.specs.declared.option.Option.{Option}
 use Rattle.std.specs.declared.option.Option.the-variants.{Some, None}
 use Rattle.std.specs.declared.result.Result.{Result}
@@ -16,9 +13,9 @@ use Rattle.sheets.specs.Calls.{unloaded, open-answer, after-set}
 use Rattle.sheets.specs.Sheets.{load-of}
 use Rattle.sheets.specs.declared.sheet.Sheet.{Sheet}
 use Rattle.planfiles.specs.declared.faults.ByteFault.the-variants.{CutShort}
-use Rattle.planfiles.specs.declared.faults.RecordFault.the-variants.{UnknownKind, OutOfPlace, OutOfOrder}
+use Rattle.planfiles.specs.declared.faults.RecordFault.the-variants.{OutOfPlace}
 use Rattle.planfiles.specs.declared.faults.Layer.{Layer}
-use Rattle.planfiles.specs.declared.faults.Layer.the-variants.{Bytes, Records, Plan}
+use Rattle.planfiles.specs.declared.faults.Layer.the-variants.{Bytes, Records}
 use Rattle.planfiles.specs.declared.faults.Fault.{Fault}
 use Rattle.planfiles.specs.Records.{number, whole-answer, fields-answer, planned, and-then, Passed}
 
@@ -32,21 +29,19 @@ header-answer bs =
     and-then (whole-answer bs)
     (cond (eqb (getD bs 0 0) 1) (planned (open-answer (getD bs 1 0) (getD bs 2 0) (number-at bs 3))) (Err (Records OutOfPlace)))
 
+-- the load that a header states
 abbrev pub opened-load : List ℕ → Load
 opened-load bs = unloaded (getD bs 1 0) (getD bs 2 0) (number-at bs 3)
 
--- the questions of a load record
-abbrev pub load-answer : Load → Option (ℕ × ℕ) → List ℕ → Passed
-load-answer s last bs =
-    and-then (whole-answer bs)
-    (cond (eqb (getD bs 0 0) 3) (fields-answer s last (getD bs 1 0) (getD bs 2 0) (number-at bs 3)) (Err (Records OutOfPlace)))
-
+-- what a file says: a load, or a fault
 abbrev pub Read : Type 0
 Read = Result Load Fault
 
+-- a layer's fault at a place
 abbrev pub fault : ℕ → Layer → Read
 fault at l = Err (record { place = at; layer = l })
 
+-- what comes next where the questions are passed
 abbrev pub on : Passed → ℕ → Read → Read
 on (Ok _) at next = next
 on (Err l) at next = fault at l
@@ -74,31 +69,11 @@ read-loads s last at (k ∷ t ∷ p ∷ a ∷ b ∷ c ∷ d ∷ rest) =
     (on (fields-answer s last t p (number a b c d)) at (read-loads (after-set s t p (number a b c d)) (Some (t, p)) (at + 7) rest))
     (other s at k (t ∷ p ∷ a ∷ b ∷ c ∷ d ∷ rest))
 
--- what is read after the load at the front
-abbrev pub next-read : Load → ℕ → List ℕ → Read
-next-read s at bs = read-loads (after-set s (getD bs 1 0) (getD bs 2 0) (number-at bs 3)) (Some (getD bs 1 0, getD bs 2 0)) (at + 7) (drop 7 bs)
-
+-- what a whole file says
 abbrev pub read-sheet : List ℕ → Read
 read-sheet bs = on (header-answer bs) 0 (read-loads (opened-load bs) None 7 (drop 7 bs))
-
--- a layer's fault, with its place
-abbrev pub located : {X : Type 0} → ℕ → Result X Layer → Result X Fault
-located at (Ok x) = Ok x
-located at (Err l) = Err (record { place = at; layer = l })
 
 -- what a reader's answer says
 abbrev pub loaded : Result Sheet Fault → Read
 loaded (Ok s) = Ok (load-of s)
 loaded (Err f) = Err f
-
--- what the reader of the header answers
-abbrev pub opened : List ℕ → Sheet → Result (RefT (List ℕ)) Layer → Type 0
-opened bs s (Ok x) = (header-answer bs ≡ Ok tt) × (load-of s ≡ opened-load bs) × (now x ≡ drop 7 bs) × (length (now x) + 7 ≡ length bs)
-opened bs s (Err l) = header-answer bs ≡ Err l
-
--- what the reader of a load answers, and what it leaves
-abbrev pub taken : Sheet → Option (ℕ × ℕ) → List ℕ → Sheet → Result ((ℕ × ℕ) × RefT (List ℕ)) Layer → Type 0
-taken s last bs s′ (Ok x) =
-    (load-answer (load-of s) last bs ≡ Ok tt) × (x .0 ≡ (getD bs 1 0, getD bs 2 0)) × (now (x .1) ≡ drop 7 bs) × (length (now (x .1)) + 7 ≡ length bs)
-    × (load-of s′ ≡ after-set (load-of s) (getD bs 1 0) (getD bs 2 0) (number-at bs 3))
-taken s last bs s′ (Err l) = load-answer (load-of s) last bs ≡ Err l

@@ -10,7 +10,9 @@ use Rattle.std.specs.declared.result.Result.{Result}
 use Rattle.std.specs.declared.result.Result.the-variants.{Ok, Err}
 use Rattle.sheets.specs.Loads.{Load}
 use Rattle.sheets.specs.Calls.{Answer, open-answer, set-answer}
+use Rattle.planfiles.specs.declared.faults.ByteFault.{ByteFault}
 use Rattle.planfiles.specs.declared.faults.ByteFault.the-variants.{CutShort}
+use Rattle.planfiles.specs.declared.faults.RecordFault.{RecordFault}
 use Rattle.planfiles.specs.declared.faults.RecordFault.the-variants.{UnknownKind, OutOfPlace, OutOfOrder}
 use Rattle.planfiles.specs.declared.faults.PlanFault.the-variants.{SheetRefused}
 use Rattle.planfiles.specs.declared.faults.Layer.{Layer}
@@ -23,6 +25,14 @@ number a b c d = a * 16777216 + b * 65536 + c * 256 + d
 -- how many bytes follow each kind of the table
 abbrev pub size-of : ℕ → Option ℕ
 size-of k = cond (eqb k 1 || eqb k 2 || eqb k 3) (Some 6) (cond (eqb k 4) (Some 4) (cond (eqb k 5) (Some 2) (cond (eqb k 6) (Some 0) None)))
+
+-- a kind of the table, and a body that has its bytes
+abbrev pub known : Option ℕ → Result ℕ RecordFault
+known None = Err UnknownKind
+known (Some n) = Ok n
+
+abbrev pub enough : ℕ → ℕ → Result (Unit {0}) ByteFault
+enough long n = cond (ltb long n) (Err CutShort) (Ok tt)
 
 abbrev pub Passed : Type 0
 Passed = Result (Unit {0}) Layer

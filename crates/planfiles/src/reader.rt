@@ -1,8 +1,10 @@
 // The reader of sheet files. Each record goes through its questions in order; the first that fails is the file's fault.
 ghost use mathlib.Core.Path.{_≡_};
 ghost use Prim.Native.Nat.{ℕ};
-ghost use Rattle.planfiles.specs.Records.{size-of, whole-answer, in-order, number as big-end};
-ghost use Rattle.planfiles.specs.Reading.{located, opened, taken, loaded, read-sheet};
+ghost use lib.ListN.{length};
+ghost use Rattle.planfiles.specs.Records.{size-of, known, enough, whole-answer, in-order, number as big-end};
+ghost use Rattle.planfiles.specs.Reading.{loaded, read-sheet};
+ghost use Rattle.planfiles.specs.Steps.{located, opened, taken};
 ghost use Rattle.planfiles.specs.Writing.{sheet-bytes};
 ghost use Rattle.sheets.specs.Sheets.{load-of};
 ghost use Rattle.std.specs.Vec.{made};
@@ -12,6 +14,7 @@ use crate::faults::ByteToLayer;
 use crate::faults::Fault;
 use crate::faults::Layer;
 use crate::faults::RecordFault;
+use crate::faults::RecordToLayer;
 use crate::faults::RefusalToLayer;
 use sheets::Sheet;
 
@@ -22,16 +25,26 @@ fn number(a: u8, b: u8, c: u8, d: u8) -> u32
 }
 
 // How long the body of a kind is.
-fn body_size(kind: u8) -> Option<usize>
-    ensures { λ r. ⌜ r ≡ size-of kind ⌝ }
+fn body_size(kind: u8) -> Result<usize, RecordFault>
+    ensures { λ r. ⌜ r ≡ known (size-of kind) ⌝ }
 {
     match kind {
-        0x01 | 0x02 | 0x03 => Some(6),
-        0x04 => Some(4),
-        0x05 => Some(2),
-        0x06 => Some(0),
-        _ => None,
+        0x01 | 0x02 | 0x03 => Ok(6),
+        0x04 => Ok(4),
+        0x05 => Ok(2),
+        0x06 => Ok(0),
+        _ => Err(RecordFault::UnknownKind),
     }
+}
+
+// The body has the bytes that its kind asks for.
+fn has_bytes(body: &[u8], size: usize) -> Result<(), ByteFault>
+    ensures { λ r. ⌜ r ≡ enough (length (now (body .entry))) size ⌝ }
+{
+    if body.len() < size {
+        return Err(ByteFault::CutShort);
+    }
+    Ok(())
 }
 
 // A kind of the table, with its whole body, stands at the front.
@@ -41,12 +54,8 @@ fn whole(bytes: &[u8]) -> Result<(), Layer>
     let [kind, body @ ..] = bytes else {
         return Err(Layer::Bytes(ByteFault::CutShort));
     };
-    let Some(size) = body_size(*kind) else {
-        return Err(Layer::Records(RecordFault::UnknownKind));
-    };
-    if body.len() < size {
-        return Err(Layer::Bytes(ByteFault::CutShort));
-    }
+    let size = body_size(*kind)?;
+    has_bytes(body, size)?;
     Ok(())
 }
 

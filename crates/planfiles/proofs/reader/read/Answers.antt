@@ -7,7 +7,8 @@ use borrow.Author.Tests.{ltb-true}
 use lib.Dec.{eqb}
 use lib.ListN.{length, getD}
 use Rattle.sheets.specs.Sheets.{load-of}
-use Rattle.planfiles.specs.Reading.{read-loads, read-sheet, on, load-answer, next-read, loaded}
+use Rattle.planfiles.specs.Reading.{read-loads, read-sheet, on, loaded}
+use Rattle.planfiles.specs.Steps.{load-answer, next-read}
 use Rattle.std.proofs.shelf.Ways.{tells}
 use Rattle.std.proofs.shelf.Results.{err-from-errBy}
 use Rattle.std.specs.declared.result.Result.the-variants.{Ok, Err}
