@@ -7,3 +7,4 @@ pub mod Pairings
 pub mod Hall
 pub mod Joining
 pub mod Covers
+pub mod Crowding

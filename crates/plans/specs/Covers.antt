@@ -1,7 +1,9 @@
 -- Which graphs have a cover, and that every load within its frame has one.
+use mathlib.Core.Path.{_≡_}
 use mathlib.Core.Bool.{Bool}
 use mathlib.Core.Logic.{_⊎_}
 use Prim.Native.Nat.{ℕ, _≤_, _<_}
+use lib.Dec.{T}
 use Rattle.graphs.specs.Graphs.{Shape, Row, Deficient, turned}
 use Rattle.graphs.specs.Covers.{Marking, Cover}
 use Rattle.sheets.specs.Loads.{Load}
@@ -22,3 +24,9 @@ Covers-stand = (g : Shape) (m : Marking) → g .seconds ≤ 16 → (Coverable g 
 -- a load within its frame has a cover at each tick
 abbrev pub Loads-covered : Type 0
 Loads-covered = (s : Load) → s .processors ≤ 16 → Within s → 0 < s .frame → Coverable (graph s) (marks s)
+
+-- two marked tasks whose only edges lead to processor 0 have no cover
+abbrev pub Two-for-one : Type 0
+Two-for-one =
+    (g : Shape) (m : Marking) (t u : ℕ) → (t ≡ u → ⊥) → t < g .firsts → u < g .firsts → T (m .urgent t) → T (m .urgent u) →
+    ((p : ℕ) → T (g .joined t p) → p ≡ 0) → ((p : ℕ) → T (g .joined u p) → p ≡ 0) → Coverable g m → ⊥
