@@ -7,6 +7,3 @@ pub use sides::Graph;
 pub use sides::LentGraph;
 pub use sides::Turned;
 pub use sides::TurnedGraph;
-
-#[cfg(test)]
-mod tests;

@@ -4,8 +4,6 @@ mod line;
 mod listing;
 mod pushes;
 mod refusals;
-#[cfg(test)]
-mod tests;
 mod texts;
 
 pub use listing::Listable;

@@ -10,6 +10,3 @@ pub use pairing::Pairing;
 pub use rules::PairingRule;
 pub use union::UnionPairing;
 pub use union::UnionRule;
-
-#[cfg(test)]
-mod tests;

@@ -11,6 +11,3 @@ pub use by_number::ByNumberPreference;
 pub use first::FirstPairing;
 pub use first::FirstRule;
 pub use preference::Preference;
-
-#[cfg(test)]
-mod tests;

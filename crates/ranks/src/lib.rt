@@ -11,6 +11,3 @@ pub use refusals::RankRefusal;
 pub use refusals::RankRefusalDebug;
 pub use refusals::RankRefusalEq;
 pub use refusals::RankRefusalPartialEq;
-
-#[cfg(test)]
-mod tests;

@@ -13,6 +13,3 @@ pub use refusals::TemplateRefusalDebug;
 pub use refusals::TemplateRefusalEq;
 pub use refusals::TemplateRefusalPartialEq;
 pub use template::Template;
-
-#[cfg(test)]
-mod tests;

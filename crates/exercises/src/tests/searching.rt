@@ -1,6 +1,6 @@
 ghost use lib.Dec.{leb, eqb};
-use crate::matching::search;
-use crate::sides::Graph;
+use graphs::Graph;
+use graphs::search;
 use std::test::*;
 
 // Node a is joined to each b of at most a.

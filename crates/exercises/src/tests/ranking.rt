@@ -1,10 +1,10 @@
-use crate::by_rank::ByRank;
-use crate::by_rank::ByRankPreference;
-use crate::ranks::RankList;
-use crate::refusals::RankRefusal;
-use crate::refusals::RankRefusalDebug;
-use crate::refusals::RankRefusalPartialEq;
 use preferences::Preference;
+use ranks::ByRank;
+use ranks::ByRankPreference;
+use ranks::RankList;
+use ranks::RankRefusal;
+use ranks::RankRefusalDebug;
+use ranks::RankRefusalPartialEq;
 use std::test::*;
 
 #[test]

@@ -1,6 +1,6 @@
-use super::*;
 use builder::Slot;
 use std::test::*;
+use templates::Template;
 
 // Two tasks on the first two processors, the others idle.
 fn slot(ticks: u32, first: Option<u8>, second: Option<u8>) -> Slot {

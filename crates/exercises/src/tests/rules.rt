@@ -1,10 +1,14 @@
 ghost use lib.Dec.{leb};
-use crate::marks::Marks;
-use crate::pairing::Pairing;
-use crate::rules::PairingRule;
-use crate::union::UnionPairing;
-use crate::union::UnionRule;
 use graphs::Graph;
+use pairings::Marks;
+use pairings::Pairing;
+use pairings::PairingRule;
+use pairings::UnionPairing;
+use pairings::UnionRule;
+use preferences::ByNumber;
+use preferences::ByNumberPreference;
+use preferences::FirstPairing;
+use preferences::FirstRule;
 use std::test::*;
 
 // Three tasks and two processors; task 0 is joined to processor 0 alone.
@@ -57,4 +61,22 @@ fn a_task_stands_once() -> Result<(), Fail> {
     check(Pairing::from_row(row).is_some())?;
     row[7] = Some(5);
     check(Pairing::from_row(row).is_none())
+}
+
+#[test]
+fn lower_numbers_first() -> Result<(), Fail> {
+    let mut marks = Marks {
+        urgent: [false; 64],
+        full: [false; 16],
+    };
+    let rule = FirstRule {
+        preference: ByNumber,
+    };
+    let mut out = Pairing::idle();
+    check(rule.pair(&Steps, &marks, &Pairing::idle(), &mut out))?;
+    check_eq(out.task_of(1), Some(1))?;
+    marks.urgent[2] = true;
+    check(rule.pair(&Steps, &marks, &Pairing::idle(), &mut out))?;
+    check_eq(out.task_of(0), Some(0))?;
+    check_eq(out.task_of(1), Some(2))
 }
