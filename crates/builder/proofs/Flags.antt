@@ -1,7 +1,7 @@
 -- Flags that a loop sets one after another, and sums that end where a loop does.
 use Rattle.std.proofs.Common.{◌≡◌, ℕ, ◌+◌, ◌<◌, ◌≤◌, Bool, false, cond, eqb, ltb, List, length, get_or, set, replicate, sym, ap, ◌∙◌, inl, inr, arith}
 use Rattle.std.proofs.lemmas.List.{get_or-set_same, get_or-set_other, get_or-replicate, get_or_past, length-replicate}
-use Rattle.std.proofs.lemmas.Bool.{cases_eq, cases_lt, lt-ltb, le-ltb, cond_true, cond-false, ne_eqb}
+use Rattle.std.proofs.lemmas.Bool.{cases_eq, cases_lt, lt-ltb, le-ltb, cond-true, cond-false, ne_eqb}
 use Rattle.counting.specs.Sums.{sum_below}
 use Rattle.counting.proofs.Sums.{sum_zero}
 
@@ -17,7 +17,7 @@ abbrev pub Flags : List Bool → (ℕ → Bool) → ℕ → Type 0
 Flags xs test i = (u : ℕ) → get_or xs u false ≡ cond (ltb u i) (test u) false
 
 flag_in : (test : ℕ → Bool) (u i : ℕ) → u < i → cond (ltb u i) (test u) false ≡ test u
-flag_in test u i h = cond_true (ltb u i) (test u) false (lt-ltb u i h)
+flag_in test u i h = cond-true (ltb u i) (test u) false (lt-ltb u i h)
 
 flag_out : (test : ℕ → Bool) (u i : ℕ) → i ≤ u → cond (ltb u i) (test u) false ≡ false
 flag_out test u i h = cond-false (ltb u i) (test u) false (le-ltb u i h)

@@ -2,7 +2,7 @@
 use Rattle.std.proofs.Common.{◌≡◌, ℕ, ◌+◌, ◌-◌, ◌<◌, ◌≤◌, min, cond, ltb, List, [], length, get_or, set, Some, None, sym, refl, ap, ◌∙◌, inl, inr, arith, length-set}
 use mathlib.Core.Path.{fun_ext}
 use native.Mathlib.Nat.{min-le_left, min-le_right}
-use Rattle.std.proofs.lemmas.Bool.{cases_eq, cases_lt, lt-ltb, le-ltb, cond_true, cond-false}
+use Rattle.std.proofs.lemmas.Bool.{cases_eq, cases_lt, lt-ltb, le-ltb, cond-true, cond-false}
 use Rattle.std.proofs.lemmas.List.{get_or-set_same, get_or-set_other, get_or_past, set_past}
 use Rattle.counting.specs.Sums.{sum_below}
 use Rattle.graphs.specs.Graphs.{Row, at}
@@ -142,7 +142,7 @@ module _ (n m frame : ℕ) (a b : List (List ℕ)) (row : Row) (d : ℕ) (taken 
 -- pairs with ticks, counted
 module _ (f : ℕ → ℕ) (p count : ℕ) (is : count ≡ sum_below p (λ q. cond (ltb 0 (f q)) 1 0)) where
   pub load_some : 0 < f p → count + 1 ≡ sum_below (p + 1) (λ q. cond (ltb 0 (f q)) 1 0)
-  load_some some = omega (arith, sum_more p (λ q. cond (ltb 0 (f q)) 1 0), cond_true {A = ℕ} (ltb 0 (f p)) 1 0 (lt-ltb 0 (f p) some))
+  load_some some = omega (arith, sum_more p (λ q. cond (ltb 0 (f q)) 1 0), cond-true {A = ℕ} (ltb 0 (f p)) 1 0 (lt-ltb 0 (f p) some))
 
   pub load_none : f p ≤ 0 → count ≡ sum_below (p + 1) (λ q. cond (ltb 0 (f q)) 1 0)
   load_none none = omega (arith, sum_more p (λ q. cond (ltb 0 (f q)) 1 0), cond-false {A = ℕ} (ltb 0 (f p)) 1 0 (le-ltb 0 (f p) none))

@@ -1,6 +1,6 @@
 -- Slots laid so far, and what they leave.
 use Rattle.std.proofs.Common.{◌≡◌, ℕ, zero, suc, ◌+◌, ◌-◌, ◌<◌, ◌≤◌, ltb, List, [], ◌∷◌, ◌++◌, length, sym, refl, ap, ◌∙◌, inl, inr, arith}
-use Rattle.std.proofs.lemmas.Bool.{cases_lt, lt-ltb, le-ltb, cond_true, cond-false}
+use Rattle.std.proofs.lemmas.Bool.{cases_lt, lt-ltb, le-ltb, cond-true, cond-false}
 use Rattle.counting.specs.Sums.{sum_below}
 use Rattle.graphs.specs.Graphs.{Row, at}
 use Rattle.graphs.specs.Covers.{Cover}
@@ -45,7 +45,7 @@ sum_ones zero f ones = refl
 sum_ones (suc k) f ones = let rest : sum_below k f ≡ k = sum_ones k f (λ i h. ones i (omega arith)) in omega (arith, ones k (omega arith))
 
 pub read_first : (slot : Slot) (slots : List Slot) (k p : ℕ) → k < slot.ticks → read (slot ∷ slots) k p ≡ at slot.row p
-read_first slot slots k p h = cond_true (ltb k slot.ticks) (at slot.row p) (read slots (k - slot.ticks) p) (lt-ltb k slot.ticks h)
+read_first slot slots k p h = cond-true (ltb k slot.ticks) (at slot.row p) (read slots (k - slot.ticks) p) (lt-ltb k slot.ticks h)
 
 pub read_rest : (slot : Slot) (slots : List Slot) (k p : ℕ) → slot.ticks ≤ k → read (slot ∷ slots) k p ≡ read slots (k - slot.ticks) p
 read_rest slot slots k p h = cond-false (ltb k slot.ticks) (at slot.row p) (read slots (k - slot.ticks) p) (le-ltb k slot.ticks h)

@@ -1,6 +1,6 @@
 -- One slot more is laid: what is left fits its frame again, and less is to do.
 use Rattle.std.proofs.Common.{◌≡◌, ℕ, zero, suc, ◌+◌, ◌-◌, ◌<◌, ◌≤◌, true, false, cond, ◌&&◌, eqb, ltb, ◌⊎◌, Some, None, Option, refl, ap, ◌∙◌, inl, inr, arith}
-use Rattle.std.proofs.lemmas.Bool.{cases_eq, cases_lt, eq-eqb, ne_eqb, ltb-true, cond_true, cond-false, and_parts}
+use Rattle.std.proofs.lemmas.Bool.{cases_eq, cases_lt, eq-eqb, ne_eqb, ltb-true, cond-true, cond-false, and_parts}
 use Rattle.std.proofs.lemmas.Bool.Decides.{nat_tests}
 use Rattle.counting.specs.Sums.{sum_below}
 use Rattle.graphs.specs.Graphs.{Row, at}
@@ -45,7 +45,7 @@ cases_paired m row t =
     ]
 
 pub laid_at : (left : Load) (row : Row) (d t p : ℕ) → at row p ≡ Some t → (laid left row d).ticks t p ≡ left.ticks t p - d
-laid_at left row d t p e = cond_true (is_task t (at row p)) (left.ticks t p - d) (left.ticks t p) (is_task_true t (at row p) e)
+laid_at left row d t p e = cond-true (is_task t (at row p)) (left.ticks t p - d) (left.ticks t p) (is_task_true t (at row p) e)
 
 pub laid_off : (left : Load) (row : Row) (d t p : ℕ) → (at row p ≡ Some t → ⊥) → (laid left row d).ticks t p ≡ left.ticks t p
 laid_off left row d t p ne = cond-false (is_task t (at row p)) (left.ticks t p - d) (left.ticks t p) (is_task_false t (at row p) ne)
@@ -70,7 +70,7 @@ slack_small : (a f : ℕ) → slack a f ≤ 1
 slack_small a f = grind (arith, nat_tests)
 
 slack_full : (a f : ℕ) → a ≡ f → slack a f ≡ 0
-slack_full a f e = cond_true {A = ℕ} (eqb a f) 0 1 (eq-eqb a f e)
+slack_full a f e = cond-true {A = ℕ} (eqb a f) 0 1 (eq-eqb a f e)
 
 slack_some : (a f : ℕ) → (a ≡ f → ⊥) → slack a f ≡ 1
 slack_some a f ne = cond-false {A = ℕ} (eqb a f) 0 1 (ne_eqb a f ne)

@@ -1,4 +1,6 @@
 // Builds slots that plan a sheet's load, by any pairing rule.
+#![tactic(auto)]
+
 mod building;
 mod left;
 mod lines;

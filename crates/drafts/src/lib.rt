@@ -1,4 +1,6 @@
 // From a sheet file to a template: read it, build by the first rule by number, adopt what was built.
+#![tactic(auto)]
+
 ghost use Rattle.drafts.specs.Drafts.{Drafted, DraftListed};
 ghost use Rattle.templates.specs.Templates.{layout_of};
 

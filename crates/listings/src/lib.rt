@@ -1,4 +1,6 @@
 // The listing of a template, a line of its numbers and a line for each slot; or of a refusal, one line.
+#![tactic(auto)]
+
 mod layouts;
 mod line;
 mod listing;

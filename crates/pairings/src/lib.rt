@@ -1,4 +1,6 @@
 // Pairings of tasks with processors, and the rules that make them.
+#![tactic(auto)]
+
 mod marks;
 mod pairing;
 mod rules;

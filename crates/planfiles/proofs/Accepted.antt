@@ -1,7 +1,7 @@
 -- A file that is accepted is the bytes of the sheet that it gives.
 use Rattle.std.proofs.Common.{◌≡◌, ℕ, zero, suc, ◌+◌, ◌<◌, ◌≤◌, Bool, true, false, cond, ◌&&◌, ◌||◌, eqb, ltb, leb, ◌⊎◌, List, [], ◌∷◌, ◌++◌, length, get_or, drop, IfOk, Some, None, Ok, Err, Option, Result, sym, refl, ap, ◌∙◌, subst, inl, inr, ⊎_elim, arith}
 use Rattle.std.proofs.lemmas.List.{append-nil, append_assoc, get_or-drop}
-use Rattle.std.proofs.lemmas.Bool.{eqb-true, ltb-true, ltb-false, leb-true, cases_Bool, cond_true, cond-false, and_parts, and_from}
+use Rattle.std.proofs.lemmas.Bool.{eqb-true, ltb-true, ltb-false, leb-true, cases_Bool, cond-true, cond-false, and_parts, and_from}
 use Rattle.sheets.specs.Cells.{written, nothing}
 use Rattle.sheets.specs.Loads.{Load}
 use Rattle.sheets.specs.Calls.{Answer, set_answer, after_set, with_ticks, most, open_answer}
@@ -55,7 +55,7 @@ other_ok s s' at k body e =
     let yes-end = over s (at + 1) body in
     let no_end = on (whole_answer (k ∷ body)) at (fault at (Records OutOfPlace)) in
     ⊎_elim
-    (λ y. let q = over_ok s s' (at + 1) body (sym (cond_true (eqb k 6) yes-end no_end y) ∙ e) in (eqb-true k 6 y, q.0, q.1))
+    (λ y. let q = over_ok s s' (at + 1) body (sym (cond-true (eqb k 6) yes-end no_end y) ∙ e) in (eqb-true k 6 y, q.0, q.1))
     (λ n. absurd (no_fault (whole_answer (k ∷ body)) at (Records OutOfPlace) s' (sym (cond-false (eqb k 6) yes-end no_end n) ∙ e))) (cases_Bool (eqb k 6))
 
 -- what a load's fields have passed
@@ -80,7 +80,7 @@ fields_ok s last t p x e =
       light = leb-true x most c.0;
       some = leb-true 1 x d.0;
       order = d.1;
-      after = cond_true (ltb t s.tasks && ltb p s.processors && leb x most) (with_ticks s (written s.ticks t p x)) s
+      after = cond-true (ltb t s.tasks && ltb p s.processors && leb x most) (with_ticks s (written s.ticks t p x)) s
           (and_from (ltb t s.tasks && ltb p s.processors) (leb x most) (and_from (ltb t s.tasks) (ltb p s.processors) a.0 b.0) c.0);
     }
 
@@ -119,7 +119,7 @@ accepted_loads s last at (k ∷ t ∷ p ∷ a ∷ b ∷ c ∷ d ∷ rest) small 
     let here : Read = on (fields_answer s last t p (number a b c d)) at next in
     ⊎_elim
     (λ y.
-    let r = on_ok (fields_answer s last t p x) at next s' (sym (cond_true (eqb k 3) here (other s at k body) y) ∙ e) in
+    let r = on_ok (fields_answer s last t p x) at next s' (sym (cond-true (eqb k 3) here (other s at k body) y) ∙ e) in
     let q = fields_ok s last t p x r.0 in
     let ih = accepted_loads (with_ticks s (written s.ticks t p x)) (Some (t, p)) (at + 7) rest
     (λ i. small (suc (suc (suc (suc (suc (suc (suc i))))))))
@@ -138,7 +138,7 @@ header_one k body v e =
     let held : cond (ltb (length body) 6) (Err (Bytes CutShort)) (Ok tt) ≡ Ok tt = sym (ap (λ j. sized (size_of j) body) one) ∙ q.0 in (
       one,
       ⊎_elim
-          (λ y. absurd (err_not_ok (sym (cond_true (ltb (length body) 6) (Err (Bytes CutShort)) (Ok tt) y) ∙ held)))
+          (λ y. absurd (err_not_ok (sym (cond-true (ltb (length body) 6) (Err (Bytes CutShort)) (Ok tt) y) ∙ held)))
           (λ n. ltb-false (length body) 6 n) (cases_Bool (ltb (length body) 6)),
     )
 

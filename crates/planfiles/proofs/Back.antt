@@ -2,7 +2,7 @@
 use Rattle.std.proofs.Common.{◌≡◌, ℕ, zero, suc, ◌+◌, ◌/◌, ◌%◌, ◌<◌, ◌≤◌, Bool, true, false, cond, ◌&&◌, ◌||◌, eqb, ltb, leb, ◌⊎◌, List, [], ◌∷◌, ◌++◌, length, get_or, drop, Some, None, Ok, Err, Option, Result, sym, refl, ap, ◌∙◌, subst, inl, inr, ⊎_elim, arith}
 use mathlib.Core.Path.{fun_ext}
 use Rattle.std.proofs.lemmas.List.{append-nil, append_assoc}
-use Rattle.std.proofs.lemmas.Bool.{lt-ltb, le-leb, le-ltb, cases_lt, cond_true, and_from}
+use Rattle.std.proofs.lemmas.Bool.{lt-ltb, le-leb, le-ltb, cases_lt, cond-true, and_from}
 use Rattle.std.proofs.lemmas.Bool.Decides.{nat_tests}
 use Rattle.sheets.specs.Cells.{written, nothing}
 use Rattle.sheets.specs.Loads.{Load}
@@ -57,11 +57,11 @@ order_row (Some l) t p o = ⊎_elim (λ h. order_lt l (suc t) 0 (omega arith)) (
 
 set_ok : (s : Load) (t p x : ℕ) → t < s.tasks → p < s.processors → x ≤ most → set_answer s t p x ≡ Ok tt
 set_ok s t p x ht hp hx =
-    cond_true (ltb t s.tasks) _ _ (lt-ltb t s.tasks ht) ∙ cond_true (ltb p s.processors) _ _ (lt-ltb p s.processors hp) ∙ cond_true (leb x most) _ _ (le-leb x most hx)
+    cond-true (ltb t s.tasks) _ _ (lt-ltb t s.tasks ht) ∙ cond-true (ltb p s.processors) _ _ (lt-ltb p s.processors hp) ∙ cond-true (leb x most) _ _ (le-leb x most hx)
 
 after_ok : (s : Load) (t p x : ℕ) → t < s.tasks → p < s.processors → x ≤ most → after_set s t p x ≡ with_ticks s (written s.ticks t p x)
 after_ok s t p x ht hp hx =
-    cond_true (ltb t s.tasks && ltb p s.processors && leb x most) (with_ticks s (written s.ticks t p x)) s
+    cond-true (ltb t s.tasks && ltb p s.processors && leb x most) (with_ticks s (written s.ticks t p x)) s
     (and_from (ltb t s.tasks && ltb p s.processors) (leb x most) (and_from (ltb t s.tasks) (ltb p s.processors) (lt-ltb t s.tasks ht) (lt-ltb p s.processors hp)) (le-leb x most hx))
 
 -- the reader has the pairs before (t, p)
@@ -149,9 +149,9 @@ module _ (s : Load) (sound : Sound s) where
       let a = sound.tasked in
       let b = sound.manned in
       let d = sound.framed in
-      cond_true (from_to 1 64 s.tasks) _ _ (and_from _ _ (le-leb 1 s.tasks a.0) (le-leb s.tasks 64 a.1))
-      ∙ cond_true (from_to 1 16 s.processors) _ _ (and_from _ _ (le-leb 1 s.processors b.0) (le-leb s.processors 16 b.1))
-      ∙ cond_true (from_to 1 most s.frame) _ _ (and_from _ _ (le-leb 1 s.frame d.0) (le-leb s.frame most d.1))
+      cond-true (from_to 1 64 s.tasks) _ _ (and_from _ _ (le-leb 1 s.tasks a.0) (le-leb s.tasks 64 a.1))
+      ∙ cond-true (from_to 1 16 s.processors) _ _ (and_from _ _ (le-leb 1 s.processors b.0) (le-leb s.processors 16 b.1))
+      ∙ cond-true (from_to 1 most s.frame) _ _ (and_from _ _ (le-leb 1 s.frame d.0) (le-leb s.frame most d.1))
 
   pub written_back : read_sheet (sheet_bytes s) ≡ Ok s
   written_back =

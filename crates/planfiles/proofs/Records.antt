@@ -2,7 +2,7 @@
 use Rattle.std.proofs.Common.{◌≡◌, ℕ, zero, suc, ◌+◌, ◌*◌, ◌/◌, ◌%◌, ◌<◌, ◌≤◌, Bool, true, false, cond, ◌&&◌, ◌||◌, eqb, ltb, leb, ◌⊎◌, List, [], ◌∷◌, ◌++◌, length, Some, None, Option, sym, refl, ap, ◌∙◌, subst, inl, inr, ⊎_elim, arith}
 use native.Mathlib.Nat.{div-div-eq-div-mul}
 use Rattle.std.proofs.lemmas.List.{append-nil, append_assoc}
-use Rattle.std.proofs.lemmas.Bool.{eq-eqb, eqb-true, ltb-true, lt-ltb, cases_lt, or_cases, or_left, or_right, and_parts, and_from, cond_true}
+use Rattle.std.proofs.lemmas.Bool.{eq-eqb, eqb-true, ltb-true, lt-ltb, cases_lt, or_cases, or_left, or_right, and_parts, and_from, cond-true}
 use Rattle.std.proofs.lemmas.Bool.Decides.{nat_tests}
 use Rattle.sheets.specs.Cells.{written}
 use Rattle.planfiles.specs.Records.{number, in_order}
@@ -49,7 +49,7 @@ module _ (f : ℕ → ℕ → ℕ) where
 
   pub load_some : (t p x : ℕ) → f t p ≡ x → 1 ≤ x → load_bytes f t p ≡ 3 ∷ t ∷ p ∷ four x
   load_some t p x e h =
-      ap (λ y. cond (ltb 0 y) (3 ∷ t ∷ p ∷ four y) []) e ∙ cond_true (ltb 0 x) (3 ∷ t ∷ p ∷ four x) [] (lt-ltb 0 x h)
+      ap (λ y. cond (ltb 0 y) (3 ∷ t ∷ p ∷ four y) []) e ∙ cond-true (ltb 0 x) (3 ∷ t ∷ p ∷ four x) [] (lt-ltb 0 x h)
 
   pub row_skip : (t p k : ℕ) → p ≤ k → ((b : ℕ) → p ≤ b → f t b ≡ 0) → row_bytes f t k ≡ row_bytes f t p
   row_skip t p zero h z = let e : zero ≡ p = omega arith in ap (row_bytes f t) e
@@ -115,7 +115,7 @@ skip f n m t p (Some l) clean w o =
 -- one more load
 module _ (f : ℕ → ℕ → ℕ) (t p x : ℕ) where
   written_here : written f t p x t p ≡ x
-  written_here = cond_true (eqb t t && eqb p p) x (f t p) (and_from (eqb t t) (eqb p p) (eq-eqb t t refl) (eq-eqb p p refl))
+  written_here = cond-true (eqb t t && eqb p p) x (f t p) (and_from (eqb t t) (eqb p p) (eq-eqb t t refl) (eq-eqb p p refl))
 
   written_left : (b : ℕ) → b < p → f t b ≡ written f t p x t b
   written_left b h = grind (arith, nat_tests)

@@ -1,6 +1,6 @@
 -- The reader's steps: what the questions of a record answer, and what is read from there on.
 use Rattle.std.proofs.Common.{◌≡◌, ℕ, suc, ◌+◌, ◌-◌, ◌<◌, ◌≤◌, Bool, true, false, cond, ◌&&◌, ◌||◌, eqb, ltb, leb, ◌⊎◌, List, [], ◌∷◌, length, get_or, drop, Some, None, Ok, Err, Option, Result, sym, refl, ap, ◌∙◌, subst, inl, inr, ⊎_elim, arith, Bor}
-use Rattle.std.proofs.lemmas.Bool.{eq-eqb, eqb-true, le-leb, le-ltb, lt-ltb, cases_Bool, cond_true, cond-false}
+use Rattle.std.proofs.lemmas.Bool.{eq-eqb, eqb-true, le-leb, le-ltb, lt-ltb, cases_Bool, cond-true, cond-false}
 use Rattle.sheets.specs.Loads.{Load}
 use Rattle.sheets.specs.Calls.{Answer, unloaded, open_answer, set_answer, after_open, after_set, from_to, most}
 use Rattle.planfiles.specs.declared.faults.ByteFault.TheVariants.{CutShort}
@@ -38,7 +38,7 @@ opens s n m l h = three (from_to 1 64 n) (from_to 1 16 m) (from_to 1 most l) (Ok
 pub header_passes : (bs : List ℕ) → whole_answer bs ≡ Ok tt → get_or bs 0 0 ≡ 1 → open_answer (get_or bs 1 0) (get_or bs 2 0) (number_at bs 3) ≡ Ok tt → header_answer bs ≡ Ok tt
 header_passes bs w k a =
     ap (λ v. and_then v (cond (eqb (get_or bs 0 0) 1) (planned (open_answer (get_or bs 1 0) (get_or bs 2 0) (number_at bs 3))) (Err (Records OutOfPlace)))) w
-    ∙ cond_true (eqb (get_or bs 0 0) 1) (planned (open_answer (get_or bs 1 0) (get_or bs 2 0) (number_at bs 3))) (Err (Records OutOfPlace)) (eq-eqb (get_or bs 0 0) 1 k)
+    ∙ cond-true (eqb (get_or bs 0 0) 1) (planned (open_answer (get_or bs 1 0) (get_or bs 2 0) (number_at bs 3))) (Err (Records OutOfPlace)) (eq-eqb (get_or bs 0 0) 1 k)
     ∙ ap planned a
 
 module _ (s : Load) (last : Option (ℕ × ℕ)) where
@@ -51,7 +51,7 @@ module _ (s : Load) (last : Option (ℕ × ℕ)) where
   pub load_passes : (bs : List ℕ) → whole_answer bs ≡ Ok tt → get_or bs 0 0 ≡ 3 → set_answer s (get_or bs 1 0) (get_or bs 2 0) (number_at bs 3) ≡ Ok tt → 1 ≤ number_at bs 3 → in_order last (get_or bs 1 0) (get_or bs 2 0) ≡ true → load_answer s last bs ≡ Ok tt
   load_passes bs w k a hx o =
       ap (λ v. and_then v (cond (eqb (get_or bs 0 0) 3) (fields_answer s last (get_or bs 1 0) (get_or bs 2 0) (number_at bs 3)) (Err (Records OutOfPlace)))) w
-      ∙ cond_true (eqb (get_or bs 0 0) 3) (fields_answer s last (get_or bs 1 0) (get_or bs 2 0) (number_at bs 3)) (Err (Records OutOfPlace)) (eq-eqb (get_or bs 0 0) 3 k)
+      ∙ cond-true (eqb (get_or bs 0 0) 3) (fields_answer s last (get_or bs 1 0) (get_or bs 2 0) (number_at bs 3)) (Err (Records OutOfPlace)) (eq-eqb (get_or bs 0 0) 3 k)
       ∙ fields_pass (get_or bs 1 0) (get_or bs 2 0) (number_at bs 3) a hx o
 
 -- a load's body, whole and not
@@ -97,14 +97,14 @@ read_step s last at (k ∷ t ∷ p ∷ a ∷ b ∷ c ∷ d ∷ rest) e =
     let here : Passed = fields_answer s last t p (number a b c d) in
     let next : Read = next_read s at (k ∷ body) in
     ⊎_elim
-    (λ y. cond_true (eqb k 3) (on here at next) (other s at k body) y
-    ∙ ap (λ v. on v at next) (sym (cond_true (eqb k 3) here (Err (Records OutOfPlace)) y))
+    (λ y. cond-true (eqb k 3) (on here at next) (other s at k body) y
+    ∙ ap (λ v. on v at next) (sym (cond-true (eqb k 3) here (Err (Records OutOfPlace)) y))
     ∙ ap (λ v. on (and_then v (cond (eqb k 3) here (Err (Records OutOfPlace)))) at next) (sym (three_whole k body y (omega arith))))
     (λ n. cond-false (eqb k 3) (on here at next) (other s at k body) n ∙ other_kind s at k body e here next n) (cases_Bool (eqb k 3))
 
 -- at an end record
 other_end : (s : Load) (at k : ℕ) (body : List ℕ) → k ≡ 6 → other s at k body ≡ over s (at + 1) body
-other_end s at k body e = cond_true (eqb k 6) (over s (at + 1) body) (on (whole_answer (k ∷ body)) at (fault at (Records OutOfPlace))) (eq-eqb k 6 e)
+other_end s at k body e = cond-true (eqb k 6) (over s (at + 1) body) (on (whole_answer (k ∷ body)) at (fault at (Records OutOfPlace))) (eq-eqb k 6 e)
 
 pub read_end : (s : Load) (last : Option (ℕ × ℕ)) (at : ℕ) (bs : List ℕ) → get_or bs 0 0 ≡ 6 → read_loads s last at bs ≡ over s (at + 1) (drop 1 bs)
 read_end s last at [] e = absurd (omega arith)

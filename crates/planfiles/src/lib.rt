@@ -1,4 +1,6 @@
 // Plan files: sheets as bytes. A record is a byte of kind and a body whose length the kind fixes.
+#![tactic(auto)]
+
 mod faults;
 mod reader;
 

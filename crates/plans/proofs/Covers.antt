@@ -1,7 +1,7 @@
 -- A graph has a cover or a short set of marked nodes, and never both; a load within its frame has a cover.
 use Rattle.std.proofs.Common.{◌≡◌, ℕ, ◌<◌, ◌≤◌, Bool, true, cond, ◌&&◌, ltb, ◌⊎◌, map, length, Some, None, sym, ap, ◌∙◌, inl, inr, arith}
 use Rattle.std.specs.List.{range_with_len}
-use Rattle.std.proofs.lemmas.Bool.{cases_eq, cases_lt, cases_Bool, and_from, lt-ltb, le-ltb, eqb-true, cond_true, cond-false}
+use Rattle.std.proofs.lemmas.Bool.{cases_eq, cases_lt, cases_Bool, and_from, lt-ltb, le-ltb, eqb-true, cond-true, cond-false}
 use Rattle.std.proofs.lemmas.List.FromFn.{length-map-range_with_len, get_or-map-range_with_len}
 use Rattle.std.proofs.lemmas.List.{get_or_past}
 use Rattle.counting.specs.Sums.{sum_below}
@@ -63,14 +63,14 @@ unfolding listed
 listed_at m row q h = get_or-map-range_with_len (λ i. cond (ltb i m) (row i) None) 0 16 q q None h (omega arith)
 
 listed_in : (m : ℕ) (row : Row) → m ≤ 16 → (q : ℕ) → q < m → at (listed m row) q ≡ row q
-listed_in m row wide q h = listed_at m row q (omega arith) ∙ cond_true (ltb q m) (row q) None (lt-ltb q m h)
+listed_in m row wide q h = listed_at m row q (omega arith) ∙ cond-true (ltb q m) (row q) None (lt-ltb q m h)
 
 listed_some : (m : ℕ) (row : Row) (q t : ℕ) → at (listed m row) q ≡ Some t → (q < m) × (row q ≡ Some t)
 listed_some m row q t e =
     elim (cases_lt q 16) [
       | inr past ↦ absurd (none_or_some (at (listed m row) q) t (get_or_past (listed m row) q None (omega (arith, listed_wide m row))) e)
       | inl near ↦ elim (cases_lt q m) [
-        | inl h ↦ (h, sym (listed_at m row q near ∙ cond_true (ltb q m) (row q) None (lt-ltb q m h)) ∙ e)
+        | inl h ↦ (h, sym (listed_at m row q near ∙ cond-true (ltb q m) (row q) None (lt-ltb q m h)) ∙ e)
         | inr h ↦ absurd (none_or_some (at (listed m row) q) t (listed_at m row q near ∙ cond-false (ltb q m) (row q) None (le-ltb q m h)) e)
       ]
     ]
@@ -121,7 +121,7 @@ tasks_not_short g m row members covering short = omega (arith, short.fewer, coun
       | inl member ↦ omega (
         arith,
         bit_le (members a),
-        sum_same g.seconds (λ b. pair a b) (λ b. hit a (row b)) (λ b h. cond_true (members a) (hit a (row b)) 0 member),
+        sum_same g.seconds (λ b. pair a b) (λ b. hit a (row b)) (λ b h. cond-true (members a) (hit a (row b)) 0 member),
         covering.tasks a ha (test_from_T (m.urgent a) (short.within a ha (T_from_test (members a) member))),
       )
       | inr out ↦ omega (arith, bit_false (members a) out)
@@ -147,7 +147,7 @@ processors_not_short g m row members covering short = omega (arith, short.fewer,
     each q hq = elim (cases_Bool (members q)) [
       | inl member ↦
           let (u, named) = some_entry (row q) (covering.processors q hq (test_from_T (m.full q) (short.within q hq (T_from_test (members q) member)))) in
-          omega (arith, bit_le (members q), point_le_sum g.firsts (λ v. pair q v) u (covering.pairing.edges q u hq named).0, cond_true (members q) (hit u (row q)) 0 member, hit_of u (row q) named)
+          omega (arith, bit_le (members q), point_le_sum g.firsts (λ v. pair q v) u (covering.pairing.edges q u hq named).0, cond-true (members q) (hit u (row q)) 0 member, hit_of u (row q) named)
       | inr out ↦ omega (arith, bit_false (members q) out)
     ]
 

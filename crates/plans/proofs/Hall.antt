@@ -1,6 +1,6 @@
 -- Hall's theorem: the marked first nodes can all be paired, or some of them have too few neighbours.
 use Rattle.std.proofs.Common.{◌≡◌, ℕ, zero, suc, ◌+◌, ◌<◌, ◌≤◌, Bool, true, false, cond, not, ◌&&◌, eqb, ◌⊎◌, Some, None, Option, sym, refl, ap, ◌∙◌, subst, inl, inr, arith}
-use Rattle.std.proofs.lemmas.Bool.{cases_eq, cases_Bool, both_ways, true≢false, and_parts, and_cases, eqb-true, eq-eqb, not-true, not-false, cond_true, cond-false}
+use Rattle.std.proofs.lemmas.Bool.{cases_eq, cases_Bool, both_ways, true≢false, and_parts, and_cases, eqb-true, eq-eqb, not-true, not-false, cond-true, cond-false}
 use Rattle.counting.specs.Sums.{sum_below, count_below}
 use Rattle.graphs.specs.Graphs.{Shape, neighbour, Deficient}
 use Rattle.counting.proofs.Sums.{sum_same, sum_add, sum_le, sum_zero, sum_swap, sum_changed_at, sum_le_bound, point_le_sum}
@@ -141,7 +141,7 @@ module _ (g : Shape) (marked : ℕ → Bool) (row : Row) (paired : MarkedPairing
               arith,
               bit_le (neighbour g members q),
               point_le_sum g.firsts (λ z. pair members z q) y (paired.entries q y hq some).0,
-              cond_true (members y) (hit y (row q)) 0 member,
+              cond-true (members y) (hit y (row q)) 0 member,
               hit_of y (row q) some,
             )
       ]
@@ -150,8 +150,8 @@ module _ (g : Shape) (marked : ℕ → Bool) (row : Row) (paired : MarkedPairing
   member_paired members reached y =
       elim (cases_Bool (members y)) [
         | inl member ↦ elim (cases_eq a y) [
-          | inl e ↦ omega (arith, sum_same g.seconds (λ q. pair members y q) (λ q. hit y (row q)) (λ q h. cond_true (members y) (hit y (row q)) 0 member), bit_true (members y) member, hit_same y a e, ap (used g.seconds row) e, a-free)
-          | inr ne ↦ omega (arith, sum_same g.seconds (λ q. pair members y q) (λ q. hit y (row q)) (λ q h. cond_true (members y) (hit y (row q)) 0 member), bit_true (members y) member, hit_other y a ne, paired.once y)
+          | inl e ↦ omega (arith, sum_same g.seconds (λ q. pair members y q) (λ q. hit y (row q)) (λ q h. cond-true (members y) (hit y (row q)) 0 member), bit_true (members y) member, hit_same y a e, ap (used g.seconds row) e, a-free)
+          | inr ne ↦ omega (arith, sum_same g.seconds (λ q. pair members y q) (λ q. hit y (row q)) (λ q h. cond-true (members y) (hit y (row q)) 0 member), bit_true (members y) member, hit_other y a ne, paired.once y)
         ]
         | inr out ↦ omega (
           arith,

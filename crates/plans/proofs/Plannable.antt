@@ -1,6 +1,6 @@
 -- A load can be planned exactly when every line fits the frame.
 use Rattle.std.proofs.Common.{◌≡◌, ℕ, zero, suc, ◌+◌, ◌-◌, ◌<◌, ◌≤◌, cond, ltb, Some, None, Option, refl, ◌∙◌, inl, inr, arith}
-use Rattle.std.proofs.lemmas.Bool.{cases_eq, cases_lt, lt-ltb, le-ltb, cond_true, cond-false}
+use Rattle.std.proofs.lemmas.Bool.{cases_eq, cases_lt, lt-ltb, le-ltb, cond-true, cond-false}
 use Rattle.counting.specs.Sums.{sum_below}
 use Rattle.sheets.specs.Loads.{Load, task_total, processor_total}
 use Rattle.plans.specs.Plans.{Plan, UnitPlan, Plannable, Within, PlansStand}
@@ -84,7 +84,7 @@ abbrev trimmed : Load → ℕ → ℕ → ℕ
 trimmed s u q = cond (ltb u s.tasks) (s.ticks u q) 0
 
 trimmed_in : (s : Load) (u q : ℕ) → u < s.tasks → trimmed s u q ≡ s.ticks u q
-trimmed_in s u q h = cond_true (ltb u s.tasks) (s.ticks u q) 0 (lt-ltb u s.tasks h)
+trimmed_in s u q h = cond-true (ltb u s.tasks) (s.ticks u q) 0 (lt-ltb u s.tasks h)
 
 trimmed_out : (s : Load) (u q : ℕ) → s.tasks ≤ u → trimmed s u q ≡ 0
 trimmed_out s u q h = cond-false (ltb u s.tasks) (s.ticks u q) 0 (le-ltb u s.tasks h)

@@ -1,6 +1,6 @@
 -- Rows: for each processor a task or nobody. How often a row names a task, and a row changed at one place.
 use Rattle.std.proofs.Common.{◌≡◌, ℕ, ◌+◌, ◌<◌, ◌≤◌, true, false, cond, eqb, Some, None, Option, refl, ap, ◌∙◌, inl, inr, arith}
-use Rattle.std.proofs.lemmas.Bool.{cases_eq, eq-eqb, ne_eqb, cond_true, cond-false}
+use Rattle.std.proofs.lemmas.Bool.{cases_eq, eq-eqb, ne_eqb, cond-true, cond-false}
 use Rattle.counting.specs.Sums.{sum_below}
 use Rattle.plans.specs.Plans.{is_task}
 use Rattle.counting.proofs.Sums.{sum_zero, sum_changed_at, two_points_le_sum, positive_point, sum_le_one}
@@ -28,7 +28,7 @@ single t p = put nobody p (Some t)
 
 pub put_at : {A : Type 0} (f : ℕ → A) (p : ℕ) (a : A) (q : ℕ) → q ≡ p → put f p a q ≡ a
 unfolding put
-put_at f p a q e = cond_true (eqb q p) a (f q) (eq-eqb q p e)
+put_at f p a q e = cond-true (eqb q p) a (f q) (eq-eqb q p e)
 
 pub put_off : {A : Type 0} (f : ℕ → A) (p : ℕ) (a : A) (q : ℕ) → (q ≡ p → ⊥) → put f p a q ≡ f q
 unfolding put
@@ -39,7 +39,7 @@ hit_le_one u None = omega arith
 hit_le_one u (Some a) = elim (eqb a u) as (λ b. cond b 1 0 ≤ 1) [ true ↦ omega arith | false ↦ omega arith ]
 
 pub hit_same : (u a : ℕ) → a ≡ u → hit u (Some a) ≡ 1
-hit_same u a e = cond_true (eqb a u) 1 0 (eq-eqb a u e)
+hit_same u a e = cond-true (eqb a u) 1 0 (eq-eqb a u e)
 
 pub hit_other : (u a : ℕ) → (a ≡ u → ⊥) → hit u (Some a) ≡ 0
 hit_other u a ne = cond-false (eqb a u) 1 0 (ne_eqb a u ne)

@@ -1,4 +1,6 @@
 // Which loads have a plan, and which graphs a cover: statements in specs/, proofs in proofs/.
+#![tactic(auto)]
+
 ghost use Rattle.plans.specs.Covers.{CoversStand, LoadsCovered, TwoForOne};
 ghost use Rattle.plans.specs.Plans.{PlansStand};
 

@@ -1,4 +1,6 @@
 // Preferences among tasks, and the rule that pairs by them.
+#![tactic(auto)]
+
 mod by_number;
 mod choice;
 mod first;

@@ -1,4 +1,6 @@
 // A rank for each task, and the preference that goes by it.
+#![tactic(auto)]
+
 mod by_rank;
 mod ranking;
 mod ranks;

@@ -1,4 +1,6 @@
 // Calls on a sheet, played in turn, and the build after them.
+#![tactic(auto)]
+
 mod answering;
 mod calls;
 mod playing;

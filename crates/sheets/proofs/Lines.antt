@@ -2,7 +2,7 @@
 use Rattle.std.proofs.Common.{◌≡◌, ℕ, zero, suc, ◌+◌, ◌<◌, ◌≤◌, Bool, true, false, cond, ◌&&◌, eqb, ltb, ◌≢◌, ◌⊎◌, List, [], ◌∷◌, length, get_or, set, replicate, sym, refl, ap, ◌∙◌, subst, inl, inr, ⊎_elim, arith}
 use mathlib.Core.Path.{fun_ext}
 use Rattle.std.proofs.lemmas.List.{get_or-set_same, get_or-set_other, length-set, get_or-replicate, get_or_past, length-replicate}
-use Rattle.std.proofs.lemmas.Bool.{cases_eq, eq-eqb, ne_eqb, cases_lt, cond_true, and_from}
+use Rattle.std.proofs.lemmas.Bool.{cases_eq, eq-eqb, ne_eqb, cases_lt, cond-true, and_from}
 use Rattle.std.proofs.lemmas.Bool.Decides.{nat_tests}
 use Rattle.sheets.specs.Cells.{cell, no_line, no_lines, nothing, written, cleared}
 use Rattle.sheets.specs.Loads.{Load}
@@ -72,7 +72,7 @@ module _ (s : Load) (n m l : ℕ) where
   pub opened_is : {f : ℕ → ℕ → ℕ} → from_to 1 64 n ≡ true → from_to 1 16 m ≡ true → from_to 1 most l ≡ true → f ≡ nothing → with_ticks (unloaded n m l) f ≡ after_open s n m l
   opened_is a b c e =
       ap (with_ticks (unloaded n m l)) e
-      ∙ sym (cond_true (from_to 1 64 n && from_to 1 16 m && from_to 1 most l) (unloaded n m l) s (and_from _ _ (and_from _ _ a b) c))
+      ∙ sym (cond-true (from_to 1 64 n && from_to 1 16 m && from_to 1 most l) (unloaded n m l) s (and_from _ _ (and_from _ _ a b) c))
 
 pub withdrawn_is : (s : Load) (t : ℕ) {f : ℕ → ℕ → ℕ} → ltb t s.tasks ≡ true → f ≡ cleared s.ticks t → with_ticks s f ≡ after_withdraw s t
-withdrawn_is s t h e = ap (with_ticks s) e ∙ sym (cond_true (ltb t s.tasks) (with_ticks s (cleared s.ticks t)) s h)
+withdrawn_is s t h e = ap (with_ticks s) e ∙ sym (cond-true (ltb t s.tasks) (with_ticks s (cleared s.ticks t)) s h)

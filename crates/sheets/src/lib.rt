@@ -1,4 +1,6 @@
 // A load sheet: up to 64 tasks, up to 16 processors, a frame, and the ticks of each pair.
+#![tactic(auto)]
+
 mod calls;
 mod refusals;
 mod sheet;

@@ -1,4 +1,6 @@
 // Reads a sheet file from standard input and prints the listing of its template, or why there is none.
+#![tactic(auto)]
+
 use anyhow::anyhow;
 use builder::Slot;
 use drafts::list_draft;

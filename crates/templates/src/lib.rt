@@ -1,4 +1,6 @@
 // A template: up to 64 tasks, up to 16 processors, a frame, and the slots that fill it.
+#![tactic(auto)]
+
 mod calls;
 mod laws;
 mod questions;
