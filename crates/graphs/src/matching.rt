@@ -14,7 +14,7 @@ struct Step {
 
 // A neighbour of the first-side node a at depth 0.
 fn fresh<G: Graph>(graph: &G, a: usize, depth: &[usize; 64]) -> Option<usize>
-    ensures { MatchOption result (Stale (shape graph.now) depth.now a) (λ b. Fresh (shape graph.now) depth.now a b) }
+    ensures { MatchOption result (Stale (G.shape graph.now) depth.now a) (λ b. Fresh (G.shape graph.now) depth.now a b) }
 {
     for b in 0..graph.seconds() {
         if depth[b] == 0 && graph.joins(a, b) {
@@ -32,7 +32,7 @@ fn way_out<G: Graph>(
     depth: &[usize; 64],
 ) -> Option<Step>
     requires { (k : ℕ) → k < 64 → slice_index depth.now k ≤ 64 }
-    ensures { MatchOption result (Closed (shape graph.now) start owner.now depth.now) (λ s. (slice_index depth.now s.to ≡ 0) × (0 < s.depth) × Hop (shape graph.now) start owner.now depth.now s.to s.via s.depth) }
+    ensures { MatchOption result (Closed (G.shape graph.now) start owner.now depth.now) (λ s. (slice_index depth.now s.to ≡ 0) × (0 < s.depth) × Hop (G.shape graph.now) start owner.now depth.now s.to s.via s.depth) }
 {
     if let Some(to) = fresh(graph, start, depth) {
         return Some(Step {
@@ -67,8 +67,8 @@ struct Trail {
 
 // Reaches what can be reached from the start, up to a node that nobody owns.
 fn explore<G: Graph>(graph: &G, start: usize, owner: &[Option<usize>; 64]) -> Option<Trail>
-    requires small { Small (shape graph.now) }
-    ensures { MatchOption result ((d : List ℕ) × Closed (shape graph.now) start owner.now d × Owned owner.now d) (λ t. Found (shape graph.now) start owner.now t.depth t.via t.end) }
+    requires small { Small (G.shape graph.now) }
+    ensures { MatchOption result ((d : List ℕ) × Closed (G.shape graph.now) start owner.now d × Owned owner.now d) (λ t. Found (G.shape graph.now) start owner.now t.depth t.via t.end) }
 {
     let mut depth = [0; 64];
     let mut via = [0; 64];
@@ -93,11 +93,11 @@ fn admit<G: Graph>(
     start: usize,
     owner: &mut [Option<usize>; 64],
 ) -> bool
-    requires small { Small (shape graph.now) }
-    requires inside { start < (shape graph.now).firsts }
-    requires matched { Matched (shape graph.now) (flag marked.now) start owner.old }
-    ensures yes { result ≡ true → Matched (shape graph.now) (flag marked.now) (start + 1) owner.new }
-    ensures no { result ≡ false → Hopeless (shape graph.now) (flag marked.now) }
+    requires small { Small (G.shape graph.now) }
+    requires inside { start < (G.shape graph.now).firsts }
+    requires matched { Matched (G.shape graph.now) (flag marked.now) start owner.old }
+    ensures yes { result ≡ true → Matched (G.shape graph.now) (flag marked.now) (start + 1) owner.new }
+    ensures no { result ≡ false → Hopeless (G.shape graph.now) (flag marked.now) }
 {
     if !marked[start] {
         return true;
@@ -118,8 +118,8 @@ fn admit<G: Graph>(
 
 /// Edges, no two at one node, for all marked nodes of the first side, unless a set of them has too few neighbours.
 pub fn search<G: Graph>(graph: &G, marked: &[bool; 64]) -> Option<[Option<usize>; 64]>
-    ensures answer { MatchOption result (Hopeless (shape graph.now) (flag marked.now)) (λ row. Matched (shape graph.now) (flag marked.now) (shape graph.now).firsts row) }
-    ensures exact { Hopeless (shape graph.now) (flag marked.now) → result ≡ None }
+    ensures answer { MatchOption result (Hopeless (G.shape graph.now) (flag marked.now)) (λ row. Matched (G.shape graph.now) (flag marked.now) (G.shape graph.now).firsts row) }
+    ensures exact { Hopeless (G.shape graph.now) (flag marked.now) → result ≡ None }
 {
     let mut owner = [None; 64];
     for start in 0..graph.firsts() {

@@ -12,5 +12,5 @@ pub trait PairingRule {
 
     /// Writes a pairing of the graph's edges that the rule admits, or an idle one where none covers the marks.
     fn pair<G: Graph>(&self, graph: &G, marks: &Marks, before: &Pairing, out: &mut Pairing) -> bool
-        ensures { Answers (admits self.now) (shape graph.now) (marking marks.now) before.now.row result out.new.row };
+        ensures { Answers (admits self.now) (G.shape graph.now) (marking marks.now) before.now.row result out.new.row };
 }

@@ -82,8 +82,8 @@ fn widened(full: &[bool; 16]) -> [bool; 64]
 
 // A row that covers the marks: the two matchings joined, every second edge of each part of the union dropped.
 fn cover<G: Graph>(graph: &G, marks: &Marks) -> Option<[Option<u8>; 16]>
-    ensures answer { MatchOption result ((other : Row) → Cover (shape graph.now) (marking marks.now) other → ⊥) (λ row. Cover (shape graph.now) (marking marks.now) row) }
-    ensures small { Small (shape graph.now) }
+    ensures answer { MatchOption result ((other : Row) → Cover (G.shape graph.now) (marking marks.now) other → ⊥) (λ row. Cover (G.shape graph.now) (marking marks.now) row) }
+    ensures small { Small (G.shape graph.now) }
 {
     let count = graph.seconds();
     if count > 16 {

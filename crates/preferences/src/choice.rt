@@ -24,7 +24,7 @@ fn preferred<P: Preference>(
     task: usize,
     found: Option<usize>,
 ) -> bool
-    ensures { MatchOption found (result ≡ true) (λ a. result ≡ order preference.now processor had task a) }
+    ensures { MatchOption found (result ≡ true) (λ a. result ≡ P.order preference.now processor had task a) }
 {
     match found {
         Some(a) => preference.comes_before(processor, had, task, a),
@@ -42,7 +42,7 @@ fn at_hand<G: Graph>(
 ) -> bool
     requires low { task < 64 }
     requires near { (a q : ℕ) → at holder.now a ≡ Some q → q < 17 }
-    ensures { result ≡ (reached trail.now (node (at holder.now task)) && (shape graph.now).joined task p) }
+    ensures { result ≡ (reached trail.now (node (at holder.now task)) && (G.shape graph.now).joined task p) }
 {
     trail.stamp[node_of(holder[task])] > 0 && graph.joins(task, p)
 }
@@ -57,8 +57,8 @@ pub(crate) fn choose<G: Graph, P: Preference>(
     p: usize,
 ) -> Option<usize>
     requires near { (a q : ℕ) → at holder.now a ≡ Some q → q < 17 }
-    ensures chosen { Chosen (order preference.now) had (shape graph.now) holder.now (reached trail.now) p (shape graph.now).firsts result }
-    ensures small { Small (shape graph.now) }
+    ensures chosen { Chosen (P.order preference.now) had (G.shape graph.now) holder.now (reached trail.now) p (G.shape graph.now).firsts result }
+    ensures small { Small (G.shape graph.now) }
 {
     let mut best = None;
     for task in 0..graph.firsts() {

@@ -38,11 +38,11 @@ fn advance<G: Graph, P: Preference>(
     p: usize,
     row: &mut [Option<u8>; 16],
 )
-    requires small { Small (shape graph.now) }
-    requires few { (shape graph.now).seconds ≤ 16 }
-    requires inside { p < (shape graph.now).seconds }
-    requires serving { Serving (shape graph.now) (marking marks.now).urgent (marking marks.now).full (at row.old) }
-    ensures { Led (order preference.now) had (shape graph.now) (marking marks.now) row.old p row.new }
+    requires small { Small (G.shape graph.now) }
+    requires few { (G.shape graph.now).seconds ≤ 16 }
+    requires inside { p < (G.shape graph.now).seconds }
+    requires serving { Serving (G.shape graph.now) (marking marks.now).urgent (marking marks.now).full (at row.old) }
+    ensures { Led (P.order preference.now) had (G.shape graph.now) (marking marks.now) row.old p row.new }
 {
     let holder = holders(row);
     let trail = explore(graph, marks, row, &holder, p);
@@ -59,9 +59,9 @@ fn advanced<G: Graph, P: Preference>(
     before: &Pairing,
     cover: [Option<u8>; 16],
 ) -> [Option<u8>; 16]
-    requires { Cover (shape graph.now) (marking marks.now) cover }
-    ensures first { First (order preference.now) (shape graph.now) (marking marks.now) before.now.row result }
-    ensures small { Small (shape graph.now) }
+    requires { Cover (G.shape graph.now) (marking marks.now) cover }
+    ensures first { First (P.order preference.now) (G.shape graph.now) (marking marks.now) before.now.row result }
+    ensures small { Small (G.shape graph.now) }
 {
     let mut row = cover;
     for p in 0..graph.seconds() {

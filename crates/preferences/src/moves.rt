@@ -31,16 +31,16 @@ fn walk_back<G: Graph>(
     from: usize,
     row: &mut [Option<u8>; 16],
 )
-    requires few { (shape graph.now).seconds ≤ 16 }
+    requires few { (G.shape graph.now).seconds ≤ 16 }
     requires wide { length trail.now.stamp ≡ 17 }
     requires late { (x : ℕ) → 0 < stamp_of trail.now x → start ≤ x }
     requires low { task < 64 }
-    requires inside { task < (shape graph.now).firsts }
-    requires early { start < (shape graph.now).seconds }
-    requires edge { (shape graph.now).joined task start ≡ true }
-    requires walk { Walk (shape graph.now) (marking marks.now) row.old start task trail.now row.old from }
+    requires inside { task < (G.shape graph.now).firsts }
+    requires early { start < (G.shape graph.now).seconds }
+    requires edge { (G.shape graph.now).joined task start ≡ true }
+    requires walk { Walk (G.shape graph.now) (marking marks.now) row.old start task trail.now row.old from }
     ensures wide { length row.new ≡ 16 }
-    ensures serving { Serving (shape graph.now) (marking marks.now).urgent (marking marks.now).full (at row.new) }
+    ensures serving { Serving (G.shape graph.now) (marking marks.now).urgent (marking marks.now).full (at row.new) }
     ensures same { (q : ℕ) → q < start → at row.new q ≡ at row.old q }
     ensures here { at row.new start ≡ Some task }
 {
@@ -65,18 +65,18 @@ pub(crate) fn hand_over<G: Graph>(
     from: usize,
     row: &mut [Option<u8>; 16],
 )
-    requires serving { Serving (shape graph.now) (marking marks.now).urgent (marking marks.now).full (at row.old) }
-    requires few { (shape graph.now).seconds ≤ 16 }
-    requires trailed { Trailed (shape graph.now) (marking marks.now) row.old start 64 trail.now }
+    requires serving { Serving (G.shape graph.now) (marking marks.now).urgent (marking marks.now).full (at row.old) }
+    requires few { (G.shape graph.now).seconds ≤ 16 }
+    requires trailed { Trailed (G.shape graph.now) (marking marks.now) row.old start 64 trail.now }
     requires low { task < 64 }
-    requires inside { task < (shape graph.now).firsts }
-    requires early { start < (shape graph.now).seconds }
-    requires edge { (shape graph.now).joined task start ≡ true }
+    requires inside { task < (G.shape graph.now).firsts }
+    requires early { start < (G.shape graph.now).seconds }
+    requires edge { (G.shape graph.now).joined task start ≡ true }
     requires some { 0 < stamp_of trail.now from }
     requires held { from < 16 → at row.old from ≡ Some task }
     requires free { 16 ≤ from → (from ≡ 16) × ((q : ℕ) → at row.old q ≢ Some task) }
     ensures wide { length row.new ≡ 16 }
-    ensures serving { Serving (shape graph.now) (marking marks.now).urgent (marking marks.now).full (at row.new) }
+    ensures serving { Serving (G.shape graph.now) (marking marks.now).urgent (marking marks.now).full (at row.new) }
     ensures same { (q : ℕ) → q < start → at row.new q ≡ at row.old q }
     ensures here { at row.new start ≡ Some task }
 {

@@ -41,15 +41,15 @@ fn reach<G: Graph>(
     by: Option<u8>,
     trail: &mut Trail,
 )
-    requires trailed { Trailed (shape graph.now) (marking marks.now) row.now start step trail.old }
+    requires trailed { Trailed (G.shape graph.now) (marking marks.now) row.now start step trail.old }
     requires positive { 0 < step }
     requires few { step ≤ 64 }
     requires near { x < 17 }
     requires late { start < x }
     requires some { 0 < stamp_of trail.old y }
     requires less { stamp_of trail.old y < step }
-    requires kind { Kind (shape graph.now) (marking marks.now) row.now x y by }
-    ensures trailed { Trailed (shape graph.now) (marking marks.now) row.now start step trail.new }
+    requires kind { Kind (G.shape graph.now) (marking marks.now) row.now x y by }
+    ensures trailed { Trailed (G.shape graph.now) (marking marks.now) row.now start step trail.new }
     ensures more { More trail.old trail.new }
     ensures old { stamp_of trail.new y ≡ stamp_of trail.old y }
     ensures here { 0 < stamp_of trail.new x }
@@ -73,17 +73,17 @@ fn pass_on<G: Graph>(
     task: u8,
     trail: &mut Trail,
 )
-    requires few { (shape graph.now).seconds ≤ 16 }
+    requires few { (G.shape graph.now).seconds ≤ 16 }
     requires early { start < 16 }
-    requires trailed { Trailed (shape graph.now) (marking marks.now) row.now start step trail.old }
+    requires trailed { Trailed (G.shape graph.now) (marking marks.now) row.now start step trail.old }
     requires positive { 0 < step }
     requires steps { step ≤ 64 }
     requires some { 0 < stamp_of trail.old y }
     requires less { stamp_of trail.old y < step }
     requires held { at row.now y ≡ Some task }
-    ensures trailed { Trailed (shape graph.now) (marking marks.now) row.now start step trail.new }
+    ensures trailed { Trailed (G.shape graph.now) (marking marks.now) row.now start step trail.new }
     ensures more { More trail.old trail.new }
-    ensures pass { (r : ℕ) → start < r → r < (shape graph.now).seconds → (shape graph.now).joined task r ≡ true → 0 < stamp_of trail.new r }
+    ensures pass { (r : ℕ) → start < r → r < (G.shape graph.now).seconds → (G.shape graph.now).joined task r ≡ true → 0 < stamp_of trail.new r }
 {
     for q in start + 1..graph.seconds() {
         if trail.stamp[q] == 0 {
@@ -116,18 +116,18 @@ fn follow<G: Graph>(
     y: usize,
     trail: &mut Trail,
 )
-    requires few { (shape graph.now).seconds ≤ 16 }
+    requires few { (G.shape graph.now).seconds ≤ 16 }
     requires early { start < 16 }
     requires near { y < 16 }
     requires small { (p t : ℕ) → at row.now p ≡ Some t → t < 64 }
-    requires trailed { Trailed (shape graph.now) (marking marks.now) row.now start step trail.old }
+    requires trailed { Trailed (G.shape graph.now) (marking marks.now) row.now start step trail.old }
     requires positive { 0 < step }
     requires steps { step ≤ 64 }
     requires some { 0 < stamp_of trail.old y }
     requires less { stamp_of trail.old y < step }
-    ensures trailed { Trailed (shape graph.now) (marking marks.now) row.now start step trail.new }
+    ensures trailed { Trailed (G.shape graph.now) (marking marks.now) row.now start step trail.new }
     ensures more { More trail.old trail.new }
-    ensures followed { Followed (shape graph.now) (marking marks.now) row.now start trail.new y }
+    ensures followed { Followed (G.shape graph.now) (marking marks.now) row.now start trail.new y }
 {
     let held = row[y];
     if may_let_go(marks, held) {
@@ -140,7 +140,7 @@ fn follow<G: Graph>(
 
 // A task that nobody holds and that is joined to the processor.
 fn loose<G: Graph>(graph: &G, holder: &[Option<u8>; 64], q: usize) -> Option<usize>
-    ensures { MatchOption result ((a : ℕ) → a < (shape graph.now).firsts → at holder.now a ≡ None → (shape graph.now).joined a q ≢ true) (λ a. (a < (shape graph.now).firsts) × (a < 64) × (at holder.now a ≡ None) × ((shape graph.now).joined a q ≡ true)) }
+    ensures { MatchOption result ((a : ℕ) → a < (G.shape graph.now).firsts → at holder.now a ≡ None → (G.shape graph.now).joined a q ≢ true) (λ a. (a < (G.shape graph.now).firsts) × (a < 64) × (at holder.now a ≡ None) × ((G.shape graph.now).joined a q ≡ true)) }
 {
     for task in 0..graph.firsts() {
         if holder[task].is_none() && graph.joins(task, q) {
@@ -160,17 +160,17 @@ fn draw<G: Graph>(
     step: usize,
     trail: &mut Trail,
 )
-    requires few { (shape graph.now).seconds ≤ 16 }
+    requires few { (G.shape graph.now).seconds ≤ 16 }
     requires early { start < 16 }
     requires flipped { Flipped row.now holder.now }
-    requires trailed { Trailed (shape graph.now) (marking marks.now) row.now start step trail.old }
+    requires trailed { Trailed (G.shape graph.now) (marking marks.now) row.now start step trail.old }
     requires positive { 0 < step }
     requires steps { step ≤ 64 }
     requires some { 0 < stamp_of trail.old 16 }
     requires less { stamp_of trail.old 16 < step }
-    ensures trailed { Trailed (shape graph.now) (marking marks.now) row.now start step trail.new }
+    ensures trailed { Trailed (G.shape graph.now) (marking marks.now) row.now start step trail.new }
     ensures more { More trail.old trail.new }
-    ensures drawn { Drawn (shape graph.now) (marking marks.now) row.now holder.now start trail.new (shape graph.now).seconds }
+    ensures drawn { Drawn (G.shape graph.now) (marking marks.now) row.now holder.now start trail.new (G.shape graph.now).seconds }
 {
     for q in start + 1..graph.seconds() {
         if trail.stamp[q] == 0 {
@@ -192,12 +192,12 @@ pub(crate) fn explore<G: Graph>(
     holder: &[Option<u8>; 64],
     start: usize,
 ) -> Trail
-    requires few { (shape graph.now).seconds ≤ 16 }
+    requires few { (G.shape graph.now).seconds ≤ 16 }
     requires early { start < 16 }
     requires small { (p t : ℕ) → at row.now p ≡ Some t → t < 64 }
     requires flipped { Flipped row.now holder.now }
-    ensures trailed { Trailed (shape graph.now) (marking marks.now) row.now start 64 result }
-    ensures closed { Closed (shape graph.now) (marking marks.now) row.now holder.now start (reached result) }
+    ensures trailed { Trailed (G.shape graph.now) (marking marks.now) row.now start 64 result }
+    ensures closed { Closed (G.shape graph.now) (marking marks.now) row.now holder.now start (reached result) }
 {
     let mut trail = Trail {
         stamp: [0; 17],

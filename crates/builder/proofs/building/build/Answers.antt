@@ -16,12 +16,12 @@ returns-in-Some g c =
     let answer : BuildAnswer (g.R.PairingRule.admits c.args.rule.now) s c.args.room.now c.args.room.now (Err (NoPlan c.in-Some.line)) = (over, over_not_plannable s c.in-Some.line over, refl) in
     record { answer = answer; exact = exact (g.R.PairingRule.admits c.args.rule.now) s c.args.room.now c.args.room.now (Err (NoPlan c.in-Some.line)) answer }
 
-pub returns-then-room-places-needed : goal.returns-then-room-places-needed
-returns-then-room-places-needed g c =
+pub returns-then-room-places_needed : goal.returns-then-room-places_needed
+returns-then-room-places_needed g c =
     let s = load_of c.args.sheet.now in
     let answer : BuildAnswer (g.R.PairingRule.admits c.args.rule.now) s c.args.room.now c.args.room.now (Err NoRoom) = (
-      plannable s (subst Within c.of-left.ensures c.in-default.ensures),
-      omega (arith, c.if-room-places-needed.true, c.places_needed.ensures, ap places_needed c.of-left.ensures),
+      plannable s (subst Within c.of-left.ensures c.in_default.ensures),
+      omega (arith, c.if-room-places_needed.true, c.places_needed.ensures, ap places_needed c.of-left.ensures),
       refl,
     ) in
     record { answer = answer; exact = exact (g.R.PairingRule.admits c.args.rule.now) s c.args.room.now c.args.room.now (Err NoRoom) answer }
@@ -30,7 +30,7 @@ pub returns : goal.returns
 returns g c =
     let s = load_of c.args.sheet.now in
     let answer : BuildAnswer (g.R.PairingRule.admits c.args.rule.now) s c.args.room.now c.lay.new.room (Ok c.lay.result) = (
-      omega (arith, c.if-room-places-needed.false, c.places_needed.ensures, ap places_needed c.of-left.ensures),
+      omega (arith, c.if-room-places_needed.false, c.places_needed.ensures, ap places_needed c.of-left.ensures),
       subst (λ (l : Load). LaidOut (g.R.PairingRule.admits c.args.rule.now) l c.args.room.now c.lay.new.room c.lay.result) c.of-left.ensures c.lay.ensures,
     ) in
     record { answer = answer; exact = exact (g.R.PairingRule.admits c.args.rule.now) s c.args.room.now c.lay.new.room (Ok c.lay.result) answer }

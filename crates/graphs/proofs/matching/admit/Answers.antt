@@ -10,10 +10,10 @@ returns-then-not-marked-start g c = record {
   no = λ e. absurd (true≢false e);
 }
 
-pub returns-in-default : goal.returns-in-default
-returns-in-default g c = record {
+pub returns-in_default : goal.returns-in_default
+returns-in_default g c = record {
   yes = λ e. absurd (false≢true e);
-  no = λ _. let (depth, closed, owned) = c.in-default.ensures in closed_hopeless _ _ _ _ depth c.requires.inside c.if-not-marked-start.false c.requires.matched closed owned;
+  no = λ _. let (depth, closed, owned) = c.in_default.ensures in closed_hopeless _ _ _ _ depth c.requires.inside c.if-not-marked-start.false c.requires.matched closed owned;
 }
 
 pub loop-b-preserved : goal.loop-b-preserved

@@ -9,10 +9,10 @@ loop-step-init g c = (
   owned_none c.args.owner.now (replicate 64 0) (zeros 64),
 )
 
-pub returns-then-is-none : goal.returns-then-is-none
-returns-then-is-none g c = let (new, some, hop) = c.in-Some.ensures in
+pub returns-then-is_none : goal.returns-then-is_none
+returns-then-is_none g c = let (new, some, hop) = c.in-Some.ensures in
     found _ _ _ _ _ c.requires.small c.loop-step.invariant.0 _ _ _ new some hop
-    (none_of _ (c.is-none.ensures ∙ ap not c.if-is-none.true))
+    (none_of _ (c.is_none.ensures ∙ ap not c.if-is_none.true))
 
 pub loop-step-smaller : goal.loop-step-smaller
 loop-step-smaller g c = let (new, some, hop) = c.in-Some.ensures in
@@ -20,7 +20,7 @@ loop-step-smaller g c = let (new, some, hop) = c.in-Some.ensures in
 
 pub loop-step-preserved : goal.loop-step-preserved
 loop-step-preserved g c = let (new, some, hop) = c.in-Some.ensures in
-    let (a, o) = some_of _ (c.is-none.ensures ∙ ap not c.if-is-none.false) in (
+    let (a, o) = some_of _ (c.is_none.ensures ∙ ap not c.if-is_none.false) in (
       grow _ _ _ _ _ c.requires.small c.loop-step.invariant.0 _ _ _ new some hop,
       owned_more c.args.owner.now c.loop-step.depth c.in-Some.step.to c.in-Some.step.depth a o c.loop-step.invariant.1,
     )

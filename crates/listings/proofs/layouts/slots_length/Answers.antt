@@ -7,8 +7,8 @@ use Rattle.listings.proofs.layouts.slots_length.Goals as goal
 
 pub loop-slot-preserved : goal.loop-slot-preserved
 loop-slot-preserved c =
-    sum_more c.args.processors c.args.slots.now c.loop-slot.slot-index c.loop-slot-test.true c.loop-slot.length c.slot-line-length.result
-    c.loop-slot.invariant.0 c.loop-slot.invariant.1 c.slot-line-length.ensures
+    sum_more c.args.processors c.args.slots.now c.loop-slot.slot-index c.loop-slot-test.true c.loop-slot.length c.slot_line-length.result
+    c.loop-slot.invariant.0 c.loop-slot.invariant.1 c.slot_line-length.ensures
 
 pub returns : goal.returns
 returns c =

@@ -10,5 +10,5 @@ returns c =
     let place = c.args.place in
     record {
       end = omega (arith, text_length line);
-      put = put_is place (place + line.len - place) c.args.output.now c.copy-from-slice.new.self (text_of line) c.copy-from-slice.ensures.after (omega (arith, text_length line));
+      put = put_is place (place + line.len - place) c.args.output.now c.copy_from_slice.new.self (text_of line) c.copy_from_slice.ensures.after (omega (arith, text_length line));
     }

@@ -9,8 +9,8 @@ use Rattle.listings.proofs.layouts.write_slots.Goals as goal
 pub loop-slot-init : goal.loop-slot-init
 loop-slot-init c = (put_nothing c.args.place c.args.output.now, omega arith)
 
-pub write-line-end-requires : goal.write-line-end-requires
-write-line-end-requires c =
+pub write_line-end-requires : goal.write_line-end-requires
+write_line-end-requires c =
     omega (
       arith,
       c.loop-slot.auto.output,
@@ -21,8 +21,8 @@ write-line-end-requires c =
 pub loop-slot-preserved : goal.loop-slot-preserved
 loop-slot-preserved c =
     put_slot c.args.processors c.args.slots.now c.loop-slot.slot-index c.loop-slot-test.true c.args.place c.args.output.now c.requires.room
-    c.loop-slot.end c.write-line-end.result (text_of c.slot_line.result) c.loop-slot.output c.write-line-end.new.output
-    c.loop-slot.invariant.0 c.loop-slot.invariant.1 c.slot_line.ensures c.write-line-end.ensures.end c.write-line-end.ensures.put
+    c.loop-slot.end c.write_line-end.result (text_of c.slot_line.result) c.loop-slot.output c.write_line-end.new.output
+    c.loop-slot.invariant.0 c.loop-slot.invariant.1 c.slot_line.ensures c.write_line-end.ensures.end c.write_line-end.ensures.put
 
 pub returns : goal.returns
 returns c =

@@ -12,8 +12,8 @@ returns c =
     let under : List ℕ = codes " by " ++ decimal (underneath c.args.fault) in
     record {
       text =
-          joins before (text_of c.push-field.new.self) (text_of c.push-field-2.new.self) place under c.push-field.ensures.text
-          (c.push-field-2.ensures.text ∙ ap (λ (n : ℕ). text_of c.push-field.new.self ++ (codes " by " ++ decimal n)) c.underneath.ensures)
+          joins before (text_of c.push_field.new.self) (text_of c.push_field-2.new.self) place under c.push_field.ensures.text
+          (c.push_field-2.ensures.text ∙ ap (λ (n : ℕ). text_of c.push_field.new.self ++ (codes " by " ++ decimal n)) c.underneath.ensures)
           ∙ ap (λ (v : List ℕ). before ++ v) (append_assoc (codes " at ") (decimal c.args.fault.place) under);
-      short = omega (arith, c.push-field.ensures.short, c.push-field-2.ensures.short);
+      short = omega (arith, c.push_field.ensures.short, c.push_field-2.ensures.short);
     }

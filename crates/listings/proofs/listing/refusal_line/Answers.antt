@@ -11,10 +11,10 @@ pub returns : goal.returns
 returns c =
     let head : List ℕ = codes "refused " ++ decimal (number_of c.args.refusal) in
     let details = details_text c.args.refusal in
-    let first : text_of c.push-field.new.self ≡ codes "refused " ++ decimal (number_of c.args.refusal) =
-    c.push-field.ensures.text
+    let first : text_of c.push_field.new.self ≡ codes "refused " ++ decimal (number_of c.args.refusal) =
+    c.push_field.ensures.text
     ∙ ap (λ (v : List ℕ). v ++ (codes "refused " ++ decimal c.number.result)) c.empty-line.ensures
     ∙ ap (λ (n : ℕ). codes "refused " ++ decimal n) c.number.ensures in
-    joins (text_of c.push-field.new.self) (text_of c.push-details.new.line) (text_of c.push.new.self) details line_end c.push-details.ensures.text c.push.ensures
+    joins (text_of c.push_field.new.self) (text_of c.push_details.new.line) (text_of c.push.new.self) details line_end c.push_details.ensures.text c.push.ensures
     ∙ ap (λ (v : List ℕ). v ++ (details ++ line_end)) first
     ∙ append_assoc (codes "refused ") (decimal (number_of c.args.refusal)) (details ++ line_end)

@@ -18,15 +18,15 @@ offset-bounds-sides-q-in-Some c = omega (arith, lead_near _ _ c.requires.joint _
 pub bounds-sides-q-in-Some : goal.bounds-sides-q-in-Some
 bounds-sides-q-in-Some c = lead_near _ _ c.requires.joint _ _ _ c.loop-q.invariant.0 _ c.in-Some.ensures
 
-pub returns-then-settled-as : goal.returns-then-settled-as
-returns-then-settled-as c = record {
-  shut = walk_meets _ _ c.requires.joint _ _ _ c.loop-q.invariant.0 _ c.in-Some.ensures (not-true _ (sym c.settled-as.ensures ∙ c.if-settled-as.true));
+pub returns-then-settled_as : goal.returns-then-settled_as
+returns-then-settled_as c = record {
+  shut = walk_meets _ _ c.requires.joint _ _ _ c.loop-q.invariant.0 _ c.in-Some.ensures (not-true _ (sym c.settled_as.ensures ∙ c.if-settled_as.true));
   grows = grows_on _ _ _ (grows_put c.args.sides.now c.args.start (omega (arith, c.requires.near, c.requires.shut.wide)) _ c.requires.free) c.loop-q.invariant.1;
   own = λ e. c.loop-q.invariant.1 _ (put_own _ _ c.requires.near c.requires.shut.wide _ e);
 }
 
 pub loop-q-smaller : goal.loop-q-smaller
-loop-q-smaller c = fewer_others _ _ (lead_fits _ _ c.requires.joint _ _ _ c.loop-q.invariant.0 _ c.in-Some.ensures) _ (lead_near _ _ c.requires.joint _ _ _ c.loop-q.invariant.0 _ c.in-Some.ensures) (not-false _ (sym c.settled-as.ensures ∙ c.if-settled-as.false))
+loop-q-smaller c = fewer_others _ _ (lead_fits _ _ c.requires.joint _ _ _ c.loop-q.invariant.0 _ c.in-Some.ensures) _ (lead_near _ _ c.requires.joint _ _ _ c.loop-q.invariant.0 _ c.in-Some.ensures) (not-false _ (sym c.settled_as.ensures ∙ c.if-settled_as.false))
 
 pub loop-q-preserved : goal.loop-q-preserved
 loop-q-preserved c = (
@@ -36,7 +36,7 @@ loop-q-preserved c = (
 
 pub returns : goal.returns
 returns c = record {
-  shut = walk_ends _ _ c.requires.joint _ _ _ c.loop-q.invariant.0 (λ q o lead. absurd (c.in-default.ensures q lead));
+  shut = walk_ends _ _ c.requires.joint _ _ _ c.loop-q.invariant.0 (λ q o lead. absurd (c.in_default.ensures q lead));
   grows = grows_on _ _ _ (grows_put c.args.sides.now c.args.start (omega (arith, c.requires.near, c.requires.shut.wide)) _ c.requires.free) c.loop-q.invariant.1;
   own = λ e. c.loop-q.invariant.1 _ (put_own _ _ c.requires.near c.requires.shut.wide _ e);
 }

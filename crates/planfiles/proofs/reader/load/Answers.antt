@@ -9,7 +9,7 @@ pub returns : goal.returns
 returns c =
     let k : get_or c.args.bytes.now 0 0 ≡ 3 = search rules in
     let x : 1 ≤ number_at c.args.bytes.now 3 = search rules in (
-      load_passes (load_of c.args.sheet.now) c.args.last c.args.bytes.now (sym c.in-ok-whole.ensures) k
+      load_passes (load_of c.args.sheet.now) c.args.last c.args.bytes.now (sym c.in_ok-whole.ensures) k
           (search rules) x (sym c.if-not-follows.ensures),
       search rules,
       take_rest c.args.bytes.now 7,

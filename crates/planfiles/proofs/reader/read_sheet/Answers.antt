@@ -6,5 +6,5 @@ pub returns : goal.returns
 returns c =
     record {
       outcome = c.read.ensures;
-      accepts = accepted_made c.args.bytes.now (λ i. let h = c.type-inv.bytes i in search rules) c.read.result c.read.ensures;
+      accepts = accepted_made c.args.bytes.now (λ i. let h = c.type_inv.bytes i in search rules) c.read.result c.read.ensures;
     }

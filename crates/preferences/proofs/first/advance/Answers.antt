@@ -22,8 +22,8 @@ explore-trail-requires g c = record {
 pub choose-requires : goal.choose-requires
 choose-requires g c = record { near = λ a q o. omega (arith, c.requires.few, (c.requires.serving.edges q a (c.holders-holder.ensures.again q a o)).1) }
 
-pub hand-over-requires : goal.hand-over-requires
-hand-over-requires g c = let b = c.in-Some.ensures.chosen in record {
+pub hand_over-requires : goal.hand_over-requires
+hand_over-requires g c = let b = c.in-Some.ensures.chosen in record {
   serving = c.requires.serving;
   few = c.requires.few;
   trailed = c.explore-trail.ensures.trailed;
@@ -31,13 +31,13 @@ hand-over-requires g c = let b = c.in-Some.ensures.chosen in record {
   inside = b.low;
   early = c.requires.inside;
   edge = b.edge;
-  some = subst (λ z. 0 < stamp_of c.explore-trail.result z) (sym c.node-of.ensures) (ltb-true 0 _ b.lies);
-  held = λ l. lies_held _ _ _ _ c.holders-holder.ensures c.node-of.ensures l;
-  free = λ l. lies_free _ _ _ _ c.told-row c.holders-holder.ensures c.node-of.ensures l;
+  some = subst (λ z. 0 < stamp_of c.explore-trail.result z) (sym c.node_of.ensures) (ltb-true 0 _ b.lies);
+  held = λ l. lies_held _ _ _ _ c.holders-holder.ensures c.node_of.ensures l;
+  free = λ l. lies_free _ _ _ _ c.told-row c.holders-holder.ensures c.node_of.ensures l;
 }
 
 pub returns-in-Some : goal.returns-in-Some
-returns-in-Some g c = led_given _ _ _ _ _ _ _ _ c.told-row c.requires.serving c.holders-holder.ensures c.explore-trail.ensures.closed c.requires.few c.requires.inside _ c.in-Some.ensures.chosen _ c.hand-over.ensures.wide c.hand-over.ensures.serving c.hand-over.ensures.same c.hand-over.ensures.here
+returns-in-Some g c = led_given _ _ _ _ _ _ _ _ c.told-row c.requires.serving c.holders-holder.ensures c.explore-trail.ensures.closed c.requires.few c.requires.inside _ c.in-Some.ensures.chosen _ c.hand_over.ensures.wide c.hand_over.ensures.serving c.hand_over.ensures.same c.hand_over.ensures.here
 
-pub returns-in-default : goal.returns-in-default
-returns-in-default g c = led_idle _ _ _ _ _ _ _ _ c.told-row c.requires.serving c.holders-holder.ensures c.explore-trail.ensures.closed c.requires.few c.requires.inside c.in-default.ensures.chosen
+pub returns-in_default : goal.returns-in_default
+returns-in_default g c = led_idle _ _ _ _ _ _ _ _ c.told-row c.requires.serving c.holders-holder.ensures c.explore-trail.ensures.closed c.requires.few c.requires.inside c.in_default.ensures.chosen

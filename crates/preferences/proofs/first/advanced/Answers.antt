@@ -6,7 +6,7 @@ pub loop-p-init : goal.loop-p-init
 loop-p-init g c = leading_none _ _ _ _ _ c.requires
 
 pub loop-p-preserved : goal.loop-p-preserved
-loop-p-preserved g c = leading_on _ _ _ _ _ _ _ c.loop-p.invariant _ c.task-of.ensures c.advance.ensures
+loop-p-preserved g c = leading_on _ _ _ _ _ _ _ c.loop-p.invariant _ c.task_of.ensures c.advance.ensures
 
 pub returns : goal.returns
 returns g c = record {

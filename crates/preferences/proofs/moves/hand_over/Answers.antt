@@ -5,8 +5,8 @@ use Rattle.preferences.proofs.Walking.{walk_held, walk_pool, walk_base, walk_fro
 use Rattle.preferences.proofs.moves.hand_over.Goals as goal
 use Rattle.preferences.proofs.moves.hand_over.Goals.{then-from-lt16, else-from-lt16}
 
-pub walk-back-requires : goal.walk-back-requires
-walk-back-requires g c = record {
+pub walk_back-requires : goal.walk_back-requires
+walk_back-requires g c = record {
   few = c.requires.few;
   wide = c.requires.trailed.stamp_wide;
   late = c.requires.trailed.late;

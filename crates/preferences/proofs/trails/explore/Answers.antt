@@ -40,5 +40,5 @@ loop-x-preserved g c = let e = c.in-Some.ensures in exploring_on _ _ _ _ _ _ _ c
 pub returns : goal.returns
 returns g c = record {
   trailed = trailed_late _ _ _ _ _ _ (steps_few _ _ _ _ _ _ _ c.loop-x.invariant) c.loop-x.invariant.trailed;
-  closed = exploring_all _ _ _ _ _ _ _ c.told-row c.requires.flipped c.loop-x.invariant c.in-default.ensures;
+  closed = exploring_all _ _ _ _ _ _ _ c.told-row c.requires.flipped c.loop-x.invariant c.in_default.ensures;
 }

@@ -1,4 +1,4 @@
 use Rattle.preferences.proofs.trails.follow.Goals as goal
 
-pub may-let-go-requires : goal.may-let-go-requires
-may-let-go-requires g c = c.requires.small _
+pub may_let_go-requires : goal.may_let_go-requires
+may_let_go-requires g c = c.requires.small _

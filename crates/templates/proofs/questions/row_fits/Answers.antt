@@ -1,7 +1,7 @@
 use Rattle.std.proofs.Common.{◌≡◌, ◌+◌, ◌<◌, length, sym, subst, arith}
 use Rattle.templates.proofs.Seeing.{Seen, seen_none, seen_skip, seen_more, wrong_processor, wrong_task, seen_twice, seen_all}
 use Rattle.templates.proofs.questions.row_fits.Goals as goal
-use Rattle.templates.proofs.questions.row_fits.Goals.{then-processor-processors-via-then-processor-processors, then-processor-processors-via-else-processor-processors+then-task-tasks, then-processor-processors-via-else-processor-processors+else-task-tasks+then-seen-task, in-Some+else-processor-processors+else-task-tasks+else-seen-task, in-default}
+use Rattle.templates.proofs.questions.row_fits.Goals.{then-processor-processors-via-then-processor-processors, then-processor-processors-via-else-processor-processors+then-task-tasks, then-processor-processors-via-else-processor-processors+else-task-tasks+then-seen-task, in-Some+else-processor-processors+else-task-tasks+else-seen-task, in_default}
 
 pub loop-processor-init : goal.loop-processor-init
 loop-processor-init c = seen_none _ _ _
@@ -27,9 +27,9 @@ loop-processor-preserved c = elim c.match-row-processor.branch [
   | in-Some+else-processor-processors+else-task-tasks+else-seen-task w ↦
       subst (λ s. Seen c.args.tasks c.args.processors c.args.row.now s (c.loop-processor.processor + 1)) (sym w.seen-is)
       (seen_more c.loop-processor.invariant w.in-Some.is w.if-processor-processors.false w.if-task-tasks.false c.requires w.if-seen-task.false)
-  | in-default w ↦
+  | in_default w ↦
       subst (λ s. Seen c.args.tasks c.args.processors c.args.row.now s (c.loop-processor.processor + 1)) (sym w.seen-is)
-      (seen_skip c.loop-processor.invariant w.in-default.is)
+      (seen_skip c.loop-processor.invariant w.in_default.is)
 ]
 
 pub returns : goal.returns

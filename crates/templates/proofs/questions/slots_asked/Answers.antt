@@ -12,12 +12,12 @@ loop-slot-init c = passed_none _ _ _ _
 pub loop-slot-preserved : goal.loop-slot-preserved
 loop-slot-preserved c =
     let small : c.args.frame < 4294967296 = omega arith in
-    passed_more c.loop-slot.invariant c.loop-slot-test.true c.in-ok-slot-asked.field-0 small c.in-ok-slot-asked.ensures
+    passed_more c.loop-slot.invariant c.loop-slot-test.true c.in_ok-slot_asked.field-0 small c.in_ok-slot_asked.ensures
 
-pub returns-in-err-slot-asked : goal.returns-in-err-slot-asked
-returns-in-err-slot-asked c =
-    let p = err_from_is_err_and c.from-residual.result c.from-residual.ensures.1 in
-    rw (p.1, p.2) (passed_fails c.loop-slot.invariant c.loop-slot-test.true c.in-err-slot-asked.field-0.0 c.in-err-slot-asked.ensures)
+pub returns-in_err-slot_asked : goal.returns-in_err-slot_asked
+returns-in_err-slot_asked c =
+    let p = err_from_is_err_and c.from_residual.result c.from_residual.ensures.1 in
+    rw (p.1, p.2) (passed_fails c.loop-slot.invariant c.loop-slot-test.true c.in_err-slot_asked.field-0.0 c.in_err-slot_asked.ensures)
 
 pub returns-then-sum-frame : goal.returns-then-sum-frame
 returns-then-sum-frame c =

@@ -1,8 +1,8 @@
 use Rattle.std.proofs.Common.{ℕ, ap, ◌∙◌, arith}
 use Rattle.builder.proofs.left.Left.of.Goals as goal
 
-pub invariant-of-result : goal.invariant-of-result
-invariant-of-result c = (
+pub invariant_of-result : goal.invariant_of-result
+invariant_of-result c = (
   omega (arith, c.tasks.ensures, c.args.sheet.now.tasked.1),
   (
     omega (arith, c.processors.ensures, c.args.sheet.now.manned.0),

@@ -7,8 +7,8 @@ use Rattle.builder.proofs.left.Left.places_needed.Goals as goal
 
 pub loop-task-preserved : goal.loop-task-preserved
 loop-task-preserved c = (
-  omega (arith, c.loop-task.invariant.0, c.loads-of-places.ensures.count, sum_more c.loop-task.task (λ t. sum_below c.args.self.now.processors (λ p. cond (ltb 0 (cell c.args.self.now.ticks t p)) 1 0))),
-  omega (arith, c.loop-task.invariant.1, c.loads-of-places.ensures.small),
+  omega (arith, c.loop-task.invariant.0, c.loads_of-places.ensures.count, sum_more c.loop-task.task (λ t. sum_below c.args.self.now.processors (λ p. cond (ltb 0 (cell c.args.self.now.ticks t p)) 1 0))),
+  omega (arith, c.loop-task.invariant.1, c.loads_of-places.ensures.small),
 )
 
 pub returns : goal.returns

@@ -8,7 +8,7 @@ pub loop-processor-init : goal.loop-processor-init
 loop-processor-init c = least_none (left_of c.args.self.now) c.args.row.now c.requires.cover c.requires.within c.args.self.now.manned
 
 pub loop-processor-preserved : goal.loop-processor-preserved
-loop-processor-preserved c = least_processor (left_of c.args.self.now) c.args.row.now c.loop-processor.processor c.loop-processor.least c.processor-lasts.result c.min-least.result c.loop-processor.invariant c.processor-lasts.ensures c.min-least.ensures
+loop-processor-preserved c = least_processor (left_of c.args.self.now) c.args.row.now c.loop-processor.processor c.loop-processor.least c.processor_lasts.result c.min-least.result c.loop-processor.invariant c.processor_lasts.ensures c.min-least.ensures
 
 pub returns : goal.returns
 returns c =

@@ -1,7 +1,7 @@
 use Rattle.std.proofs.Common.{◌≡◌, ℕ, ◌+◌, List, sym, subst, arith}
 use Rattle.builder.specs.Lasting.{Taken}
 use Rattle.builder.proofs.Lasts.{taken_none, taken_pair, taken_idle}
-use Rattle.builder.proofs.left.laying.take_ticks.Goals.{in-Some, in-default}
+use Rattle.builder.proofs.left.laying.take_ticks.Goals.{in-Some, in_default}
 use Rattle.builder.proofs.left.laying.take_ticks.Goals as goal
 
 pub loop-processor-init : goal.loop-processor-init
@@ -16,9 +16,9 @@ loop-processor-preserved c =
       | in-Some w ↦
           subst (λ (b : List (List ℕ)). Taken c.args.lines.now b c.args.row.now (c.loop-processor.processor + 1) c.args.ticks) (sym w.lines-is)
           (taken_pair c.args.lines.now c.loop-processor.lines c.args.row.now c.loop-processor.processor w.in-Some.task c.args.ticks c.loop-processor.invariant w.in-Some.is (omega (arith, c.told-lines, (c.requires.pairs c.loop-processor.processor w.in-Some.task c.loop-processor-test.true w.in-Some.is).0)))
-      | in-default w ↦
+      | in_default w ↦
           subst (λ (b : List (List ℕ)). Taken c.args.lines.now b c.args.row.now (c.loop-processor.processor + 1) c.args.ticks) (sym w.lines-is)
-          (taken_idle c.args.lines.now c.loop-processor.lines c.args.row.now c.loop-processor.processor c.args.ticks c.loop-processor.invariant w.in-default.is)
+          (taken_idle c.args.lines.now c.loop-processor.lines c.args.row.now c.loop-processor.processor c.args.ticks c.loop-processor.invariant w.in_default.is)
     ]
 
 pub returns : goal.returns

@@ -7,15 +7,15 @@ use Rattle.listings.proofs.line.Line.+push_number.Goals as goal
 pub push-requires : goal.push-requires
 push-requires t c = omega (arith, decimal_nonempty c.args.number (omega arith))
 
-pub push-number-requires : goal.push-number-requires
-push-number-requires t c = (omega (arith, c.decreases), omega (arith, longer c.args.number c.if-number-lt10.false (omega arith)))
+pub push_number-requires : goal.push_number-requires
+push_number-requires t c = (omega (arith, c.decreases), omega (arith, longer c.args.number c.if-number-lt10.false (omega arith)))
 
 pub push-requires-else-number-lt10 : goal.push-requires-else-number-lt10
 push-requires-else-number-lt10 t c =
     omega (
       arith,
       longer c.args.number c.if-number-lt10.false (omega arith),
-      long_after (text_of c.args.self.now) (text_of c.push-number.new.self) (decimal (c.args.number / 10)) c.push-number.ensures,
+      long_after (text_of c.args.self.now) (text_of c.push_number.new.self) (decimal (c.args.number / 10)) c.push_number.ensures,
     )
 
 pub returns-then-number-lt10 : goal.returns-then-number-lt10
@@ -24,5 +24,5 @@ returns-then-number-lt10 t c =
 
 pub returns-else-number-lt10 : goal.returns-else-number-lt10
 returns-else-number-lt10 t c =
-    number_more (text_of c.args.self.now) (text_of c.push-number.new.self) (text_of c.push-else-number-lt10.new.self) c.args.number
-    c.if-number-lt10.false (omega arith) c.push-number.ensures c.push-else-number-lt10.ensures
+    number_more (text_of c.args.self.now) (text_of c.push_number.new.self) (text_of c.push-else-number-lt10.new.self) c.args.number
+    c.if-number-lt10.false (omega arith) c.push_number.ensures c.push-else-number-lt10.ensures

@@ -4,8 +4,8 @@ use native.Mathlib.Bridge.{le_prop}
 use Rattle.templates.specs.Templates.{layout_of}
 use Rattle.listings.proofs.listing.TemplateListable.list.Goals as goal
 
-pub list-slots-listed-requires : goal.list-slots-listed-requires
-list-slots-listed-requires c =
+pub list_slots-listed-requires : goal.list_slots-listed-requires
+list_slots-listed-requires c =
     let t = c.args.self.now in
     let tasks : c.args.self.now.tasks ≤ 64 = ∥∥₁_elim t.sound le_prop (λ s. s.tasks_most) in
     let processors : c.args.self.now.processors ≤ 16 = ∥∥₁_elim t.sound le_prop (λ s. s.processors_most) in

@@ -3,7 +3,7 @@ use Rattle.std.proofs.lemmas.Bool.{true≢false, false≢true}
 use Rattle.pairings.specs.Pairings.{Seen}
 use Rattle.pairings.proofs.Seeing.{seen_none, seen_skip, seen_more, seen_twice, seen_all}
 use Rattle.pairings.proofs.pairing.making.no_task_twice.Goals as goal
-use Rattle.pairings.proofs.pairing.making.no_task_twice.Goals.{then-task-ge64-via-then-task-ge64, then-task-ge64-via-else-task-ge64+then-seen-task, in-Some+else-task-ge64+else-seen-task, in-default}
+use Rattle.pairings.proofs.pairing.making.no_task_twice.Goals.{then-task-ge64-via-then-task-ge64, then-task-ge64-via-else-task-ge64+then-seen-task, in-Some+else-task-ge64+else-seen-task, in_default}
 
 pub loop-p-init : goal.loop-p-init
 loop-p-init c = seen_none _
@@ -21,7 +21,7 @@ returns-then-task-ge64 c = record {
 pub loop-p-preserved : goal.loop-p-preserved
 loop-p-preserved c = elim c.match-row-p.branch [
   | in-Some+else-task-ge64+else-seen-task w ↦ subst (λ s. Seen c.args.row.now s (c.loop-p.p + 1)) (sym w.seen-is) (seen_more _ _ _ c.loop-p.invariant _ w.in-Some.is (omega (arith, w.if-task-ge64.false)) w.if-seen-task.false)
-  | in-default w ↦ subst (λ s. Seen c.args.row.now s (c.loop-p.p + 1)) (sym w.seen-is) (seen_skip _ _ _ c.loop-p.invariant w.in-default.is)
+  | in_default w ↦ subst (λ s. Seen c.args.row.now s (c.loop-p.p + 1)) (sym w.seen-is) (seen_skip _ _ _ c.loop-p.invariant w.in_default.is)
 ]
 
 pub returns : goal.returns

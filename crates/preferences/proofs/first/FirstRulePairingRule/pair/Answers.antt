@@ -5,8 +5,8 @@ use Rattle.pairings.proofs.Seeing.{cover_paired}
 use Rattle.preferences.specs.Preferences.{First}
 use Rattle.preferences.proofs.first.FirstRulePairingRule.pair.Goals as goal
 
-pub returns-in-default : goal.returns-in-default
-returns-in-default g c = absurd (c.in-default.ensures (cover_paired _ _ _ c.advanced-row.ensures.small c.advanced-row.ensures.first.cover))
+pub returns-in_default : goal.returns-in_default
+returns-in_default g c = absurd (c.in_default.ensures (cover_paired _ _ _ c.advanced-row.ensures.small c.advanced-row.ensures.first.cover))
 
 pub returns : goal.returns
 returns g c = record {

@@ -1,5 +1,5 @@
 use Rattle.ranks.proofs.Onces.{numbered_once}
 use Rattle.ranks.proofs.ranks.RankList.by_number.Goals as goal
 
-pub invariant-of-result : goal.invariant-of-result
-invariant-of-result c = (∣ numbered_once _ c.in-order.ensures ∣₁, tt)
+pub invariant_of-result : goal.invariant_of-result
+invariant_of-result c = (∣ numbered_once _ c.in_order.ensures ∣₁, tt)

@@ -1,4 +1,4 @@
 use Rattle.ranks.proofs.ranks.RankList.replace.Goals as goal
 
-pub invariant-of-self : goal.invariant-of-self
-invariant-of-self c = (∣ c.each-once.ensures.yes c.if-not-each-once.false ∣₁, tt)
+pub invariant_of-self : goal.invariant_of-self
+invariant_of-self c = (∣ c.each_once.ensures.yes c.if-not-each_once.false ∣₁, tt)

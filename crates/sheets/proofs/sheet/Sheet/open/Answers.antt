@@ -5,10 +5,17 @@ use Rattle.sheets.specs.Sheets.{load_of}
 use Rattle.sheets.proofs.Lines.{empty_is, opened_is, all_light, all_zero}
 use Rattle.sheets.proofs.sheet.Sheet.open.Goals as goal
 
-pub invariant-of-self : goal.invariant-of-self
-invariant-of-self c =
+pub invariant_of-self : goal.invariant_of-self
+invariant_of-self c =
     let e = ap cell c.clear.ensures ∙ empty_is in
-    (search rules, (search rules, (search rules, (all_light e, ((λ t p _. all_zero e t p), ((λ t p _. all_zero e t p), tt))))))
+    record {
+      tasked = search rules;
+      manned = search rules;
+      framed = search rules;
+      light = all_light e;
+      below = λ t p _. all_zero e t p;
+      beside = λ t p _. all_zero e t p;
+    }
 
 pub returns : goal.returns
 returns c =

@@ -5,30 +5,20 @@ use Rattle.sheets.proofs.Lines.{light_at, zero_at, written_light, written_below,
 use Rattle.sheets.proofs.sheet.Sheet.set.Goals as goal
 
 -- the ticks stay open, so that what is stored is asked of the clauses alone
-pub invariant-of-self : goal.invariant-of-self
-invariant-of-self c =
+pub invariant_of-self : goal.invariant_of-self
+invariant_of-self c =
     let s = c.args.self.now in
     let f = tick_at s.table in
     let e = c.put.ensures in
     let asked-task = c.in-Some.ensures in
     let asked-processor = c.in-Some-below.ensures in
     let task-low : c.in-Some.task < c.args.self.now.tasks = grind (arith, nat_tests) in
-    let processor-low : c.in-Some-below.processor < c.args.self.now.processors = grind (arith, nat_tests) in (
-      s.tasked,
-      (
-        s.manned,
-        (
-          s.framed,
-          (
-            light_at e (written_light f _ _ _ (omega arith) s.light),
-            (
-              (λ a b h. zero_at e a b (written_below f _ _ _ s.tasks task-low s.below a b h)),
-              (
-                (λ a b h. zero_at e a b (written_beside f _ _ _ s.processors processor-low s.beside a b h)),
-                tt,
-              ),
-            ),
-          ),
-        ),
-      ),
-    )
+    let processor-low : c.in-Some-below.processor < c.args.self.now.processors = grind (arith, nat_tests) in
+    record {
+      tasked = s.tasked;
+      manned = s.manned;
+      framed = s.framed;
+      light = light_at e (written_light f _ _ _ (omega arith) s.light);
+      below = λ a b h. zero_at e a b (written_below f _ _ _ s.tasks task-low s.below a b h);
+      beside = λ a b h. zero_at e a b (written_beside f _ _ _ s.processors processor-low s.beside a b h);
+    }

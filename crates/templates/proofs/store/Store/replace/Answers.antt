@@ -4,5 +4,5 @@ use Rattle.templates.proofs.store.Store.replace.Goals as goal
 
 pub returns : goal.returns
 returns c =
-    let copied = c.copy-from-slice.ensures.after in
+    let copied = c.copy_from_slice.ensures.after in
     record { few = c.requires; holds = take_at _ _ _ (ap length copied) ∙ copied }

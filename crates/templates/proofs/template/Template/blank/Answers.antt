@@ -3,5 +3,5 @@ use Rattle.templates.specs.Layouts.{laid, Sound}
 use Rattle.templates.proofs.Soundness.{blank_sound}
 use Rattle.templates.proofs.template.Template.blank.Goals as goal
 
-pub invariant-of-result : goal.invariant-of-result
-invariant-of-result c = (c.idle.ensures.few, (∣ subst (λ slots. Sound (laid 1 1 1 slots)) (sym c.idle.ensures.holds) blank_sound ∣₁, tt))
+pub invariant_of-result : goal.invariant_of-result
+invariant_of-result c = (c.idle.ensures.few, (∣ subst (λ slots. Sound (laid 1 1 1 slots)) (sym c.idle.ensures.holds) blank_sound ∣₁, tt))
