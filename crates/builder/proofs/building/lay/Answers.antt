@@ -16,14 +16,14 @@ next_slot-slot-requires g c = record { more = c.loop-left-test.true; within = st
 pub subtract-requires : goal.subtract-requires
 subtract-requires g c = record { near = (turn_falls c.requires.within c.loop-left.invariant c.next_slot-slot.result c.next_slot-slot.ensures.next).0; may = c.next_slot-slot.ensures.next.longest.may; cover = c.next_slot-slot.ensures.next.cover }
 
-pub offset-bounds-room-count : goal.offset-bounds-room-count
-offset-bounds-room-count g c = let place : c.loop-left.count < length c.loop-left.room = has_place c.requires.within c.loop-left.invariant (omega (arith, c.requires.places, c.loop-left.auto.room)) c.next_slot-slot.result c.next_slot-slot.ensures.next in search rules
+pub offset_bounds-room-count : goal.offset_bounds-room-count
+offset_bounds-room-count g c = let place : c.loop-left.count < length c.loop-left.room = has_place c.requires.within c.loop-left.invariant (omega (arith, c.requires.places, c.loop-left.auto.room)) c.next_slot-slot.result c.next_slot-slot.ensures.next in search rules
 
 pub bounds-room-count : goal.bounds-room-count
 bounds-room-count g c = has_place c.requires.within c.loop-left.invariant (omega (arith, c.requires.places, c.loop-left.auto.room)) c.next_slot-slot.result c.next_slot-slot.ensures.next
 
-pub overflow-add-count : goal.overflow-add-count
-overflow-add-count g c = let place : c.loop-left.count < length c.loop-left.room = has_place c.requires.within c.loop-left.invariant (omega (arith, c.requires.places, c.loop-left.auto.room)) c.next_slot-slot.result c.next_slot-slot.ensures.next in search rules
+pub overflow_add-count : goal.overflow_add-count
+overflow_add-count g c = let place : c.loop-left.count < length c.loop-left.room = has_place c.requires.within c.loop-left.invariant (omega (arith, c.requires.places, c.loop-left.auto.room)) c.next_slot-slot.result c.next_slot-slot.ensures.next in search rules
 
 pub loop-left-smaller : goal.loop-left-smaller
 loop-left-smaller g c = omega (arith, turn_falls c.requires.within c.loop-left.invariant c.next_slot-slot.result c.next_slot-slot.ensures.next, ap (λ (s : Load). s.frame) c.subtract.ensures)

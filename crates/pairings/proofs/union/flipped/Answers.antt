@@ -7,8 +7,8 @@ use Rattle.pairings.proofs.union.flipped.Goals.{in-Some, in_default}
 pub loop-a-init : goal.loop-a-init
 loop-a-init c = flip_none _
 
-pub offset-bounds-row-b : goal.offset-bounds-row-b
-offset-bounds-row-b c = omega (arith, c.requires.near _ _ c.in-Some.is)
+pub offset_bounds-row-b : goal.offset_bounds-row-b
+offset_bounds-row-b c = omega (arith, c.requires.near _ _ c.in-Some.is)
 
 pub bounds-row-b : goal.bounds-row-b
 bounds-row-b c = c.requires.near _ _ c.in-Some.is

@@ -6,14 +6,14 @@ use Rattle.pairings.proofs.walks.walk.Goals as goal
 pub loop-q-init : goal.loop-q-init
 loop-q-init c = (walk_starts _ _ c.requires.joint _ _ _ c.requires.near c.requires.shut c.requires.first c.requires.free, λ q o. o)
 
-pub offset-bounds-sides-q : goal.offset-bounds-sides-q
-offset-bounds-sides-q c = omega (arith, lead_near _ _ c.requires.joint _ _ _ c.loop-q.invariant.0 _ c.in-Some.ensures)
+pub offset_bounds-sides-q : goal.offset_bounds-sides-q
+offset_bounds-sides-q c = omega (arith, lead_near _ _ c.requires.joint _ _ _ c.loop-q.invariant.0 _ c.in-Some.ensures)
 
 pub bounds-sides-q : goal.bounds-sides-q
 bounds-sides-q c = lead_near _ _ c.requires.joint _ _ _ c.loop-q.invariant.0 _ c.in-Some.ensures
 
-pub offset-bounds-sides-q-in-Some : goal.offset-bounds-sides-q-in-Some
-offset-bounds-sides-q-in-Some c = omega (arith, lead_near _ _ c.requires.joint _ _ _ c.loop-q.invariant.0 _ c.in-Some.ensures)
+pub offset_bounds-sides-q-in-Some : goal.offset_bounds-sides-q-in-Some
+offset_bounds-sides-q-in-Some c = omega (arith, lead_near _ _ c.requires.joint _ _ _ c.loop-q.invariant.0 _ c.in-Some.ensures)
 
 pub bounds-sides-q-in-Some : goal.bounds-sides-q-in-Some
 bounds-sides-q-in-Some c = lead_near _ _ c.requires.joint _ _ _ c.loop-q.invariant.0 _ c.in-Some.ensures

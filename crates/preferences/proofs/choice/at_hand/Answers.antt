@@ -6,8 +6,8 @@ near-node : (o : Option ℕ) → ((q : ℕ) → o ≡ Some q → q < 17) → nod
 near-node None h = omega arith
 near-node (Some q) h = h q refl
 
-pub offset-bounds-trail-node_of : goal.offset-bounds-trail-node_of
-offset-bounds-trail-node_of g c = omega (arith, c.node_of.ensures, near-node _ (c.requires.near c.args.task))
+pub offset_bounds-trail-node_of : goal.offset_bounds-trail-node_of
+offset_bounds-trail-node_of g c = omega (arith, c.node_of.ensures, near-node _ (c.requires.near c.args.task))
 
 pub bounds-trail-node_of : goal.bounds-trail-node_of
 bounds-trail-node_of g c = omega (arith, c.node_of.ensures, near-node _ (c.requires.near c.args.task))

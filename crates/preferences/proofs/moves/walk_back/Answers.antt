@@ -5,14 +5,14 @@ use Rattle.preferences.specs.Reach.{Walk}
 use Rattle.preferences.proofs.Walking.{walk_on, walk_ends, reached_near}
 use Rattle.preferences.proofs.moves.walk_back.Goals as goal
 
-pub offset-bounds-trail-x : goal.offset-bounds-trail-x
-offset-bounds-trail-x g c = omega (arith, reached_near _ _ c.requires.wide c.loop-x.invariant.some)
+pub offset_bounds-trail-x : goal.offset_bounds-trail-x
+offset_bounds-trail-x g c = omega (arith, reached_near _ _ c.requires.wide c.loop-x.invariant.some)
 
 pub bounds-trail-x : goal.bounds-trail-x
 bounds-trail-x g c = reached_near _ _ c.requires.wide c.loop-x.invariant.some
 
-pub offset-bounds-trail-x-in-loop-x : goal.offset-bounds-trail-x-in-loop-x
-offset-bounds-trail-x-in-loop-x g c = omega (arith, reached_near _ _ c.requires.wide c.loop-x.invariant.some)
+pub offset_bounds-trail-x-in-loop-x : goal.offset_bounds-trail-x-in-loop-x
+offset_bounds-trail-x-in-loop-x g c = omega (arith, reached_near _ _ c.requires.wide c.loop-x.invariant.some)
 
 pub bounds-trail-x-in-loop-x : goal.bounds-trail-x-in-loop-x
 bounds-trail-x-in-loop-x g c = reached_near _ _ c.requires.wide c.loop-x.invariant.some

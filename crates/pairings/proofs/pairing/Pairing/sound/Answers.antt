@@ -1,4 +1,4 @@
 use Rattle.pairings.proofs.pairing.Pairing.sound.Goals as goal
 
 pub invariant_of-result : goal.invariant_of-result
-invariant_of-result c = (c.requires.wide, (∣ c.requires.paired ∣₁, tt))
+invariant_of-result c = record { wide = c.requires.wide; paired = ∣ c.requires.paired ∣₁ }
