@@ -6,4 +6,4 @@ pub invariant_of-self : goal.invariant_of-self
 invariant_of-self c =
     let short : length c.args.slots.now ≤ 1104 = omega arith in
     let sound = adopted_sound _ _ _ _ (omega arith) (omega arith) (omega arith) (omega arith) (omega arith) (omega arith) short c.in_ok-slots_asked.ensures c.replace.ensures.holds in
-    (c.replace.ensures.few, (∣ sound ∣₁, tt))
+    record { few = c.replace.ensures.few; sound = ∣ sound ∣₁ }
