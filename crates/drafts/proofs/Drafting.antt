@@ -9,14 +9,13 @@ use Rattle.builder.specs.declared.slots.Slot.{Slot}
 use Rattle.listings.specs.declared.refusals.Refusal.TheVariants.{Build}
 use Rattle.plans.proofs.Plannable.{plans_stand}
 use Rattle.planfiles.specs.Reading.{read_sheet}
-use Rattle.preferences.specs.Numbers.{first_by_number}
 use Rattle.sheets.specs.Loads.{Load, places_needed}
 use Rattle.templates.specs.Calls.{adopt_answer, after_adopt, settled}
 use Rattle.templates.specs.Layouts.{Layout, laid}
 use Rattle.templates.specs.declared.refusals.TemplateRefusal.{TemplateRefusal}
 use Rattle.templates.proofs.Soundness.{adopts_the_sound}
 use Rattle.graphs.specs.Covers.{all_idle}
-use Rattle.drafts.specs.Drafts.{Drafted, TemplateOf, Roomed}
+use Rattle.drafts.specs.Drafts.{Drafted, TemplateOf, Roomed, first_by_number}
 use Rattle.drafts.proofs.Adopting.{built_sound}
 
 pub refused_build : (file : List ℕ) (s : Load) (room room' : List Slot) (old : Layout) (refusal : BuildRefusal) →
