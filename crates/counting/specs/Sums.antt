@@ -1,5 +1,5 @@
 -- Sums, counts and firsts over the numbers below a bound.
-use Rattle.std.specs.Prelude.{ℕ, zero, suc, ◌+◌, Bool, false, cond, ◌||◌, Some, None, Option}
+use Rattle.std.specs.Prelude.{ℕ, zero, suc, ◌+◌, Bool, false, cond, ◌||◌}
 
 -- f 0 + .. + f (k - 1)
 abbrev pub sum_below : ℕ → (ℕ → ℕ) → ℕ

@@ -1,6 +1,5 @@
 -- What is built is sound, so that a template adopts it.
-use Rattle.std.proofs.Common.{◌≡◌, ℕ, zero, suc, ◌+◌, ◌-◌, ◌*◌, ◌<◌, ◌≤◌, Bool, true, false, cond, ltb, ◌⊎◌, List, [], ◌∷◌, length, get_or, Some, None, sym, refl, ap, ◌∙◌, subst, inl, inr, mul-le-mul, arith}
-use Rattle.std.proofs.lemmas.Bool.{cases_Bool}
+use Rattle.std.proofs.Common.{◌≡◌, ℕ, zero, suc, ◌*◌, ◌<◌, ◌≤◌, Bool, true, false, cond, ltb, List, [], ◌∷◌, length, Some, None, sym, arith}
 use Rattle.counting.specs.Sums.{sum_below}
 use Rattle.builder.specs.Building.{Built, Next, laid}
 use Rattle.builder.proofs.Steps.{lasts, within_frame, within_laid}
@@ -8,7 +7,7 @@ use Rattle.builder.specs.declared.slots.Slot.{Slot}
 use Rattle.graphs.specs.Graphs.{Row, at}
 use Rattle.pairings.specs.Rules.{Rule}
 use Rattle.plans.specs.Plans.{Within}
-use Rattle.sheets.specs.Loads.{Load, loads, places_needed}
+use Rattle.sheets.specs.Loads.{Load, places_needed}
 use Rattle.templates.specs.Layouts.{Sound, slot_at, total, laid as layout}
 
 module _ (admits : Rule) where

@@ -1,5 +1,5 @@
 -- Graphs of two sides, sets of marked nodes, and rows.
-use Rattle.std.specs.Prelude.{◌≡◌, ℕ, ◌<◌, ◌≤◌, Bool, ◌&&◌, T, List, Some, None, Option, slice_index_or}
+use Rattle.std.specs.Prelude.{ℕ, ◌<◌, ◌≤◌, Bool, ◌&&◌, T, List, None, Option, slice_index_or}
 use Rattle.counting.specs.Sums.{count_below, any_below}
 
 -- how many nodes each side has, and whether an edge joins two of them

@@ -1,22 +1,22 @@
 -- A file that is accepted is the bytes of the sheet that it gives.
-use Rattle.std.proofs.Common.{◌≡◌, ℕ, zero, suc, ◌+◌, ◌<◌, ◌≤◌, Bool, true, false, cond, ◌&&◌, ◌||◌, eqb, ltb, leb, ◌⊎◌, List, [], ◌∷◌, ◌++◌, length, get_or, drop, IfOk, Some, None, Ok, Err, Option, Result, sym, refl, ap, ◌∙◌, subst, inl, inr, ⊎_elim, arith}
-use Rattle.std.proofs.lemmas.List.{append-nil, append_assoc, get_or-drop}
+use Rattle.std.proofs.Common.{◌≡◌, ℕ, suc, ◌+◌, ◌<◌, ◌≤◌, Bool, true, false, cond, ◌&&◌, eqb, ltb, leb, List, [], ◌∷◌, ◌++◌, length, get_or, drop, IfOk, Some, None, Ok, Err, Option, Result, sym, refl, ap, ◌∙◌, subst, ⊎_elim, arith}
+use Rattle.std.proofs.lemmas.List.{append-nil, get_or-drop}
 use Rattle.std.proofs.lemmas.Bool.{eqb-true, ltb-true, ltb-false, leb-true, cases_Bool, cond-true, cond-false, and_parts, and_from}
-use Rattle.sheets.specs.Cells.{written, nothing}
+use Rattle.sheets.specs.Cells.{written}
 use Rattle.sheets.specs.Loads.{Load}
-use Rattle.sheets.specs.Calls.{Answer, set_answer, after_set, with_ticks, most, open_answer}
-use Rattle.planfiles.specs.declared.faults.RecordFault.TheVariants.{UnknownKind, OutOfPlace, OutOfOrder}
+use Rattle.sheets.specs.Calls.{Answer, set_answer, after_set, with_ticks, most}
+use Rattle.planfiles.specs.declared.faults.RecordFault.TheVariants.{OutOfPlace, OutOfOrder}
 use Rattle.planfiles.specs.declared.faults.ByteFault.TheVariants.{CutShort}
 use Rattle.planfiles.specs.declared.faults.Layer.{Layer}
-use Rattle.planfiles.specs.declared.faults.Layer.TheVariants.{Bytes, Records, Plan}
+use Rattle.planfiles.specs.declared.faults.Layer.TheVariants.{Bytes, Records}
 use Rattle.planfiles.specs.declared.faults.Fault.{Fault}
 use Rattle.planfiles.specs.Records.{number, size_of, sized, whole_answer, fields_answer, planned, and_then, in_order, Passed}
-use Rattle.planfiles.specs.Reading.{number_at, header_answer, opened_load, Read, fault, on, over, other, read_loads, read_sheet, loaded}
+use Rattle.planfiles.specs.Reading.{header_answer, opened_load, Read, fault, on, over, other, read_loads, read_sheet, loaded}
 use Rattle.sheets.specs.Sheets.{load_of}
 use Rattle.sheets.specs.declared.sheet.Sheet.{Sheet}
-use Rattle.planfiles.specs.Writing.{four, rows_bytes, header_bytes, sheet_bytes}
+use Rattle.planfiles.specs.Writing.{rows_bytes, header_bytes, sheet_bytes}
 use Rattle.planfiles.proofs.Steps.{err_not_ok}
-use Rattle.planfiles.proofs.Records.{four_number, skip, upto, before, Clean, Within, order_lt, clean_more, taken_more}
+use Rattle.planfiles.proofs.Records.{four_number, skip, upto, Clean, Within, order_lt, clean_more, taken_more}
 
 value_or : {X Y : Type 0} → X → Result X Y → X
 value_or d (Ok x) = x

@@ -1,18 +1,17 @@
 -- Reading what was written gives the sheet back.
-use Rattle.std.proofs.Common.{◌≡◌, ℕ, zero, suc, ◌+◌, ◌/◌, ◌%◌, ◌<◌, ◌≤◌, Bool, true, false, cond, ◌&&◌, ◌||◌, eqb, ltb, leb, ◌⊎◌, List, [], ◌∷◌, ◌++◌, length, get_or, drop, Some, None, Ok, Err, Option, Result, sym, refl, ap, ◌∙◌, subst, inl, inr, ⊎_elim, arith}
+use Rattle.std.proofs.Common.{◌≡◌, ℕ, zero, suc, ◌+◌, ◌/◌, ◌%◌, ◌<◌, ◌≤◌, true, cond, ◌&&◌, ltb, leb, List, [], ◌∷◌, ◌++◌, length, Some, None, Ok, Err, Option, sym, refl, ap, ◌∙◌, ⊎_elim, arith}
 use mathlib.Core.Path.{fun_ext}
 use Rattle.std.proofs.lemmas.List.{append-nil, append_assoc}
 use Rattle.std.proofs.lemmas.Bool.{lt-ltb, le-leb, le-ltb, cases_lt, cond-true, and_from}
 use Rattle.std.proofs.lemmas.Bool.Decides.{nat_tests}
 use Rattle.sheets.specs.Cells.{written, nothing}
 use Rattle.sheets.specs.Loads.{Load}
-use Rattle.sheets.specs.Calls.{Answer, unloaded, set_answer, after_set, with_ticks, most, from_to, open_answer}
-use Rattle.planfiles.specs.declared.faults.RecordFault.TheVariants.{UnknownKind, OutOfPlace, OutOfOrder}
+use Rattle.sheets.specs.Calls.{unloaded, set_answer, after_set, with_ticks, most, from_to, open_answer}
 use Rattle.planfiles.specs.declared.faults.ByteFault.TheVariants.{CutShort}
-use Rattle.planfiles.specs.declared.faults.Layer.TheVariants.{Bytes, Records, Plan}
-use Rattle.planfiles.specs.Records.{number, size_of, sized, whole_answer, fields_answer, planned, and_then, in_order, Passed}
-use Rattle.planfiles.specs.Reading.{number_at, header_answer, Read, on, over, other, read_loads, read_sheet}
-use Rattle.planfiles.specs.Writing.{four, load_bytes, row_bytes, rows_bytes, header_bytes, sheet_bytes}
+use Rattle.planfiles.specs.declared.faults.Layer.TheVariants.{Bytes}
+use Rattle.planfiles.specs.Records.{number, fields_answer, planned, and_then, in_order}
+use Rattle.planfiles.specs.Reading.{on, read_loads, read_sheet}
+use Rattle.planfiles.specs.Writing.{four, row_bytes, rows_bytes, sheet_bytes}
 use Rattle.planfiles.proofs.Steps.{fields_pass}
 use Rattle.planfiles.proofs.Records.{number_four, before, load_none, load_some, order_lt, order_eq, order_cases}
 

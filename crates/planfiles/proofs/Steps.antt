@@ -1,15 +1,15 @@
 -- The reader's steps: what the questions of a record answer, and what is read from there on.
-use Rattle.std.proofs.Common.{◌≡◌, ℕ, suc, ◌+◌, ◌-◌, ◌<◌, ◌≤◌, Bool, true, false, cond, ◌&&◌, ◌||◌, eqb, ltb, leb, ◌⊎◌, List, [], ◌∷◌, length, get_or, drop, Some, None, Ok, Err, Option, Result, sym, refl, ap, ◌∙◌, subst, inl, inr, ⊎_elim, arith, Bor}
+use Rattle.std.proofs.Common.{◌≡◌, ℕ, ◌+◌, ◌<◌, ◌≤◌, Bool, true, false, cond, ◌&&◌, eqb, leb, List, [], ◌∷◌, length, get_or, drop, Some, Ok, Err, Option, Result, sym, refl, ap, ◌∙◌, subst, ⊎_elim, arith, Bor}
 use Rattle.std.proofs.lemmas.Bool.{eq-eqb, eqb-true, le-leb, le-ltb, lt-ltb, cases_Bool, cond-true, cond-false}
 use Rattle.sheets.specs.Loads.{Load}
-use Rattle.sheets.specs.Calls.{Answer, unloaded, open_answer, set_answer, after_open, after_set, from_to, most}
+use Rattle.sheets.specs.Calls.{unloaded, open_answer, set_answer, after_open, from_to, most}
 use Rattle.planfiles.specs.declared.faults.ByteFault.TheVariants.{CutShort}
-use Rattle.planfiles.specs.declared.faults.RecordFault.TheVariants.{UnknownKind, OutOfPlace, OutOfOrder}
+use Rattle.planfiles.specs.declared.faults.RecordFault.TheVariants.{OutOfPlace, OutOfOrder}
 use Rattle.planfiles.specs.declared.faults.Layer.{Layer}
-use Rattle.planfiles.specs.declared.faults.Layer.TheVariants.{Bytes, Records, Plan}
+use Rattle.planfiles.specs.declared.faults.Layer.TheVariants.{Bytes, Records}
 use Rattle.planfiles.specs.declared.faults.Fault.{Fault}
 use Rattle.planfiles.specs.Records.{number, size_of, sized, whole_answer, fields_answer, planned, and_then, in_order, Passed}
-use Rattle.planfiles.specs.Reading.{number_at, header_answer, opened_load, Read, fault, on, over, other, read_loads, read_sheet}
+use Rattle.planfiles.specs.Reading.{number_at, header_answer, Read, fault, on, over, other, read_loads}
 use Rattle.planfiles.specs.Steps.{load_answer, next_read, taken, located}
 use Rattle.sheets.specs.Sheets.{load_of}
 use Rattle.sheets.specs.declared.sheet.Sheet.{Sheet}

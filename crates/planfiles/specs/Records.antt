@@ -1,11 +1,11 @@
 -- What one record is, and the questions that it is asked.
-use Rattle.std.specs.Prelude.{ℕ, ◌+◌, ◌*◌, Bool, true, false, cond, ◌&&◌, ◌||◌, List, [], ◌∷◌, length, Some, None, Ok, Err, Option, Result, ◌==◌, nat_le, nat_lt}
+use Rattle.std.specs.Prelude.{ℕ, ◌+◌, ◌*◌, Bool, true, cond, ◌&&◌, ◌||◌, List, [], ◌∷◌, length, Some, None, Ok, Err, Option, Result, ◌==◌, nat_le, nat_lt}
 use Rattle.sheets.specs.Loads.{Load}
-use Rattle.sheets.specs.Calls.{Answer, open_answer, set_answer}
+use Rattle.sheets.specs.Calls.{Answer, set_answer}
 use Rattle.planfiles.specs.declared.faults.ByteFault.{ByteFault}
 use Rattle.planfiles.specs.declared.faults.ByteFault.TheVariants.{CutShort}
 use Rattle.planfiles.specs.declared.faults.RecordFault.{RecordFault}
-use Rattle.planfiles.specs.declared.faults.RecordFault.TheVariants.{UnknownKind, OutOfPlace, OutOfOrder}
+use Rattle.planfiles.specs.declared.faults.RecordFault.TheVariants.{UnknownKind, OutOfOrder}
 use Rattle.planfiles.specs.declared.faults.PlanFault.TheVariants.{SheetRefused}
 use Rattle.planfiles.specs.declared.faults.Layer.{Layer}
 use Rattle.planfiles.specs.declared.faults.Layer.TheVariants.{Bytes, Records, Plan}

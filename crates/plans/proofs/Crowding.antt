@@ -1,5 +1,5 @@
 -- Two tasks that only one processor can take.
-use Rattle.std.proofs.Common.{◌≡◌, ℕ, Some, None, sym, ap, ◌∙◌}
+use Rattle.std.proofs.Common.{◌≡◌, ℕ, Some, sym, ap, ◌∙◌}
 use Rattle.graphs.specs.Graphs.{Row, at}
 use Rattle.plans.specs.Covers.{TwoForOne}
 

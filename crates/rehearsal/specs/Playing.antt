@@ -1,5 +1,5 @@
 -- Scripts: calls in turn, each with its answer beside it.
-use Rattle.std.specs.Prelude.{◌≡◌, ℕ, zero, suc, ◌<◌, List, map, length, take, Some, None, Option, Result, slice_index_or}
+use Rattle.std.specs.Prelude.{◌≡◌, ℕ, zero, suc, List, map, length, take, Some, None, Result, slice_index_or}
 use Rattle.builder.specs.declared.refusals.BuildRefusal.{BuildRefusal}
 use Rattle.builder.specs.declared.slots.Slot.{Slot}
 use Rattle.pairings.specs.Rules.{Rule}

@@ -1,4 +1,4 @@
-use Rattle.std.proofs.Common.{◌≡◌, ℕ, ◌≤◌, get_or, sym, refl, ◌∙◌, arith, rules}
+use Rattle.std.proofs.Common.{◌≡◌, ◌≤◌, get_or, sym, rules}
 use Rattle.std.proofs.lemmas.List.{take_rest}
 use Rattle.sheets.specs.Sheets.{load_of}
 use Rattle.planfiles.specs.Reading.{number_at}

@@ -1,7 +1,7 @@
-use Rattle.std.proofs.Common.{◌≡◌, ℕ, ◌+◌, ◌-◌, ◌≤◌, true, false, eqb, length, get_or, Ok, Err, sym, refl, ap, ◌∙◌, arith, rules, ltb-true}
+use Rattle.std.proofs.Common.{◌≡◌, ℕ, ◌+◌, ◌-◌, false, eqb, length, get_or, Err, sym, ap, ◌∙◌, arith, ltb-true}
 use Rattle.sheets.specs.Sheets.{load_of}
-use Rattle.planfiles.specs.Reading.{read_loads, read_sheet, on, loaded}
-use Rattle.planfiles.specs.Steps.{load_answer, next_read}
+use Rattle.planfiles.specs.Reading.{on, loaded}
+use Rattle.planfiles.specs.Steps.{next_read}
 use Rattle.std.proofs.lemmas.Bool.Decides.{nat_tests}
 use Rattle.std.proofs.lemmas.Result.{err_from_is_err_and}
 use Rattle.planfiles.proofs.Steps.{taken_at, refused_at, read_step, none_is_no_end, read_next}

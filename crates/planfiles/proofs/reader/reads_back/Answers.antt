@@ -1,5 +1,5 @@
 use Rattle.sheets.specs.Sheets.{load_of}
-use Rattle.planfiles.proofs.Back.{Sound, written_back}
+use Rattle.planfiles.proofs.Back.{written_back}
 use Rattle.planfiles.proofs.reader.reads_back.Goals as goal
 
 pub returns : goal.returns

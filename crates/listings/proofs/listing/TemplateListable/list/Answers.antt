@@ -1,4 +1,4 @@
-use Rattle.std.proofs.Common.{◌≤◌, length, sym, ap, arith}
+use Rattle.std.proofs.Common.{◌≤◌, length, ap, arith}
 use mathlib.Core.Logic.{∥∥₁_elim}
 use native.Mathlib.Bridge.{le_prop}
 use Rattle.templates.specs.Templates.{layout_of}
