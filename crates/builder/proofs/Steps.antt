@@ -192,8 +192,8 @@ lasts left row d cover within longest = longest.most 1 (one_tick left row cover 
 pub within_frame : (left : Load) (row : Row) (d : ℕ) → Cover (graph left) (marks left) row → Within left → Longest left row d → d ≤ left.frame
 within_frame left row d cover within longest =
     elim (cases_eq left.processors 0) [
-      | inl no-processor ↦ elim (cases_eq left.tasks 0) [
-        | inl no-task ↦ absurd (omega (
+      | inl no_processor ↦ elim (cases_eq left.tasks 0) [
+        | inl no_task ↦ absurd (omega (
           arith,
           longest.most (d + 1) (record { pairs = λ p t h e. absurd (omega arith); tasks = λ t h none. absurd (omega arith); processors = λ p h none. absurd (omega arith) }),
         ))

@@ -55,11 +55,11 @@ count_inject R (suc n) m p q has one = ⊎_elim (yes_in (λ r h. count_inject R 
 
     yes_in : ((r : ℕ → Bool) → ((i : ℕ) → i < n → p i ≡ true → (x : ℕ) × (x < m) × (r x ≡ true) × R i x) → count_below n p ≤ count_below m r) → p n ≡ true → count_below (suc n) p ≤ count_below m q
     yes_in ih e =
-        let (x, small, in-q, joint) = has n (omega arith) e in
-        let more = count_without m q x small in-q in
+        let (x, small, in_q, joint) = has n (omega arith) e in
+        let more = count_without m q x small in_q in
         let others : (i : ℕ) → i < n → p i ≡ true → (y : ℕ) × (y < m) × (without q x y ≡ true) × R i y = λ i l t.
-        let (y, small-y, in-y, joint-y) = has i (omega arith) t in
-        (y, small-y, sym (without_other q x y (λ s. let z : i ≡ n = one i n x (subst (λ w. R i w) s joint-y) joint in omega arith)) ∙ in-y, joint-y) in
+        let (y, small_y, in_y, joint_y) = has i (omega arith) t in
+        (y, small_y, sym (without_other q x y (λ s. let z : i ≡ n = one i n x (subst (λ w. R i w) s joint_y) joint in omega arith)) ∙ in_y, joint_y) in
         omega (arith, count_yes n p e, more, ih (without q x) others)
 
 pub any_from : (n : ℕ) (t : ℕ → Bool) (i : ℕ) → i < n → t i ≡ true → any_below n t ≡ true

@@ -51,7 +51,7 @@ module _ (g : Shape) (small : Small g) (urgent full : ℕ → Bool) (tasks back 
     kept_from : (p t : ℕ) → kept_at p ≡ Some t → (Own sides p × (at own p ≡ Some t)) ⊎ ((Own sides p → ⊥) × (at tasks p ≡ Some t))
     kept_from p t h = ⊎_elim
         (λ o. inl (o, sym (kept_own (side_at sides p) (at tasks p) (at own p) o) ∙ h))
-        (λ no-o. inr (no-o, sym (kept_task (side_at sides p) (at tasks p) (at own p) no-o) ∙ h))
+        (λ no_o. inr (no_o, sym (kept_task (side_at sides p) (at tasks p) (at own p) no_o) ∙ h))
         (cases_own (side_at sides p))
 
     -- no task of a processor that keeps its own is one of a processor that does not
@@ -83,11 +83,11 @@ module _ (g : Shape) (small : Small g) (urgent full : ℕ → Bool) (tasks back 
     }
 
     pub union_cover : g.seconds ≤ 16 → (row : Row) → length row ≡ 16 → ((k : ℕ) → k < 16 → at row k ≡ kept_at k) → (marks : Marking) → ((k : ℕ) → urgent k ≡ marks.urgent k) → ((k : ℕ) → full k ≡ marks.full k) → Cover g marks row
-    union_cover few row wide is marks same-u same-f = serving_cover g marks row few wide (record {
+    union_cover few row wide is marks same_u same_f = serving_cover g marks row few wide (record {
       edges = λ p t h. s.edges p t (sym (same p) ∙ h);
       apart = λ p q t h k. s.apart p q t (sym (same p) ∙ h) (sym (same q) ∙ k);
-      tasks = λ t l u. let (p, h) = s.tasks t l (same-u t ∙ u) in (p, same p ∙ h);
-      processors = λ p l u. let (t, h) = s.processors p l (same-f p ∙ u) in (t, same p ∙ h);
+      tasks = λ t l u. let (p, h) = s.tasks t l (same_u t ∙ u) in (p, same p ∙ h);
+      processors = λ p l u. let (t, h) = s.processors p l (same_f p ∙ u) in (t, same p ∙ h);
     })
       where
         s : Serving g urgent full kept_at

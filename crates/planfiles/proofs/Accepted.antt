@@ -52,11 +52,11 @@ over_ok s s' at (b ∷ bs) e = absurd (err_not_ok e)
 
 other_ok : (s s' : Load) (at k : ℕ) (body : List ℕ) → other s at k body ≡ Ok s' → (k ≡ 6) × (body ≡ []) × (s ≡ s')
 other_ok s s' at k body e =
-    let yes-end = over s (at + 1) body in
+    let yes_end = over s (at + 1) body in
     let no_end = on (whole_answer (k ∷ body)) at (fault at (Records OutOfPlace)) in
     ⊎_elim
-    (λ y. let q = over_ok s s' (at + 1) body (sym (cond-true (eqb k 6) yes-end no_end y) ∙ e) in (eqb-true k 6 y, q.0, q.1))
-    (λ n. absurd (no_fault (whole_answer (k ∷ body)) at (Records OutOfPlace) s' (sym (cond-false (eqb k 6) yes-end no_end n) ∙ e))) (cases_Bool (eqb k 6))
+    (λ y. let q = over_ok s s' (at + 1) body (sym (cond-true (eqb k 6) yes_end no_end y) ∙ e) in (eqb-true k 6 y, q.0, q.1))
+    (λ n. absurd (no_fault (whole_answer (k ∷ body)) at (Records OutOfPlace) s' (sym (cond-false (eqb k 6) yes_end no_end n) ∙ e))) (cases_Bool (eqb k 6))
 
 -- what a load's fields have passed
 record Fields (s : Load) (last : Option (ℕ × ℕ)) (t p x : ℕ) : Type 0 where

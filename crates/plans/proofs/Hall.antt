@@ -60,12 +60,12 @@ count_grown n members y hy new =
 count_le : (n : ℕ) (members : ℕ → Bool) → count_below n members ≤ n
 count_le n members = sum_le_bound n (λ i. bit (members i)) (λ i h. bit_le (members i))
 
-module _ (g : Shape) (marked : ℕ → Bool) (row : Row) (paired : MarkedPairing g marked row) (a : ℕ) (a_first : a < g.firsts) (a-marked : marked a ≡ true) (a-free : used g.seconds row a ≡ 0) where
+module _ (g : Shape) (marked : ℕ → Bool) (row : Row) (paired : MarkedPairing g marked row) (a : ℕ) (a_first : a < g.firsts) (a_marked : marked a ≡ true) (a_free : used g.seconds row a ≡ 0) where
   start : Reached g marked row a (λ x. eqb x a)
   start =
       record {
         has = eq-eqb a a refl;
-        within = λ x e. (omega (arith, eqb-true x a e), ap marked (eqb-true x a e) ∙ a-marked);
+        within = λ x e. (omega (arith, eqb-true x a e), ap marked (eqb-true x a e) ∙ a_marked);
         freed = λ x e. (
           row,
           record {
@@ -150,7 +150,7 @@ module _ (g : Shape) (marked : ℕ → Bool) (row : Row) (paired : MarkedPairing
   member_paired members reached y =
       elim (cases_Bool (members y)) [
         | inl member ↦ elim (cases_eq a y) [
-          | inl e ↦ omega (arith, sum_same g.seconds (λ q. pair members y q) (λ q. hit y (row q)) (λ q h. cond-true (members y) (hit y (row q)) 0 member), bit_true (members y) member, hit_same y a e, ap (used g.seconds row) e, a-free)
+          | inl e ↦ omega (arith, sum_same g.seconds (λ q. pair members y q) (λ q. hit y (row q)) (λ q h. cond-true (members y) (hit y (row q)) 0 member), bit_true (members y) member, hit_same y a e, ap (used g.seconds row) e, a_free)
           | inr ne ↦ omega (arith, sum_same g.seconds (λ q. pair members y q) (λ q. hit y (row q)) (λ q h. cond-true (members y) (hit y (row q)) 0 member), bit_true (members y) member, hit_other y a ne, paired.once y)
         ]
         | inr out ↦ omega (

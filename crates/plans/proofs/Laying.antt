@@ -48,9 +48,9 @@ pair_put frame plan i row u q h =
     omega (arith, ap (λ (r : Row). hit u (r q)) (put_at plan i row i refl))
 
 once_put : (m frame : ℕ) (plan : Plan) (i : ℕ) (row : Row) → ((k u : ℕ) → k < frame → used m (plan k) u ≤ 1) → ((u : ℕ) → used m row u ≤ 1) → (k u : ℕ) → k < frame → used m (put plan i row k) u ≤ 1
-once_put m frame plan i row once row-once k u h =
+once_put m frame plan i row once row_once k u h =
     elim (cases_eq k i) [
-      | inl e ↦ omega (arith, ap (λ (r : Row). used m r u) (put_at plan i row k e), row-once u)
+      | inl e ↦ omega (arith, ap (λ (r : Row). used m r u) (put_at plan i row k e), row_once u)
       | inr ne ↦ omega (arith, ap (λ (r : Row). used m r u) (put_off plan i row k ne), once k u h)
     ]
 
@@ -71,9 +71,9 @@ lay_at_two_ticks m frame ticks plan laid t p i j first second hi hj ne free w =
 
 pub lay : (n m frame : ℕ) (ticks : ℕ → ℕ → ℕ) (plan : Plan) → Laid m frame ticks plan → ((u q : ℕ) → n ≤ u → ticks u q ≡ 0) → (t p : ℕ) → p < m → sum_below m (λ q. ticks t q) < frame → sum_below n (λ u. ticks u p) < frame →
     (plan' : Plan) × Laid m frame (plus ticks t p) plan'
-lay n m frame ticks plan laid outside t p hp spare-task spare-processor =
-    let (i, hi, free) = free_task_tick m frame ticks plan laid t spare-task in
-    let (j, hj, none) = free_processor_tick n m frame ticks plan laid outside p hp spare-processor in
+lay n m frame ticks plan laid outside t p hp spare_task spare_processor =
+    let (i, hi, free) = free_task_tick m frame ticks plan laid t spare_task in
+    let (j, hj, none) = free_processor_tick n m frame ticks plan laid outside p hp spare_processor in
     elim (cases_eq i j) [
       | inl e ↦ (put plan i (put (plan i) p (Some t)), lay_at_one_tick m frame ticks plan laid t p i hp hi free (ap (λ k. plan k p) e ∙ none))
       | inr ne ↦

@@ -42,7 +42,7 @@ module _ (order : Order) (had : Option ℕ) (g : Shape) (small : Small g) (holde
     }
 
     pub chosen_take : (o : Option ℕ) → Chosen order had g holder in' p k o → MatchOption o (r ≡ true) (λ a. r ≡ order p had k a) → r ≡ true → (h : Bool) → h ≡ (in' (node (at holder k)) && g.joined k p) → h ≡ true → Best order had g holder in' p (k + 1) k
-    chosen_take o c is e h hand-is on = record {
+    chosen_take o c is e h hand_is on = record {
       low = inside;
       edge = parts.1;
       lies = parts.0;
@@ -50,7 +50,7 @@ module _ (order : Order) (had : Option ℕ) (g : Shape) (small : Small g) (holde
     }
       where
         parts : (in' (node (at holder k)) ≡ true) × (g.joined k p ≡ true)
-        parts = and_parts (in' (node (at holder k))) (g.joined k p) (sym hand-is ∙ on)
+        parts = and_parts (in' (node (at holder k))) (g.joined k p) (sym hand_is ∙ on)
 
         older : (o : Option ℕ) → Chosen order had g holder in' p k o → MatchOption o (r ≡ true) (λ a. r ≡ order p had k a) → (b : ℕ) → b < k → g.joined b p ≡ true → in' (node (at holder b)) ≡ true → (k ≡ b) ⊎ T (order p had k b)
         older None c is b l j i = absurd (c b l j i)

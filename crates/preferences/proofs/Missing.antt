@@ -56,8 +56,8 @@ module _ (g : Shape) (marks : Marking) (row holder : Row) (p : ℕ) (in' : ℕ �
               (λ full. let (x, w) = a.serving.processors q l full in
               let (lx, _, j) = a.serving.edges q x w in
               ⊎_elim
-              (λ in-x. absurd (both_ways (in' q) out (c.onward x q lx (omega arith) l j in-x)))
-              (λ out-x. (x, lx, not_from_false (lies x) out-x, w))
+              (λ in_x. absurd (both_ways (in' q) out (c.onward x q lx (omega arith) l j in_x)))
+              (λ out_x. (x, lx, not_from_false (lies x) out_x, w))
               (cases_Bool (lies x)))
               (λ slack. absurd (both_ways (in' q) out (c.slack q y pool (omega arith) l k slack)))
               (cases_Bool (marks.full q)))

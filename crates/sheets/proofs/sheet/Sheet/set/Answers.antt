@@ -10,15 +10,15 @@ invariant_of-self c =
     let s = c.args.self.now in
     let f = tick_at s.table in
     let e = c.put.ensures in
-    let asked-task = c.in-Some.ensures in
-    let asked-processor = c.in-Some-below.ensures in
-    let task-low : c.in-Some.task < c.args.self.now.tasks = grind (arith, nat_tests) in
-    let processor-low : c.in-Some-below.processor < c.args.self.now.processors = grind (arith, nat_tests) in
+    let asked_task = c.in-Some.ensures in
+    let asked_processor = c.in-Some-below.ensures in
+    let task_low : c.in-Some.task < c.args.self.now.tasks = grind (arith, nat_tests) in
+    let processor_low : c.in-Some-below.processor < c.args.self.now.processors = grind (arith, nat_tests) in
     record {
       tasked = s.tasked;
       manned = s.manned;
       framed = s.framed;
       light = light_at e (written_light f _ _ _ (omega arith) s.light);
-      below = λ a b h. zero_at e a b (written_below f _ _ _ s.tasks task-low s.below a b h);
-      beside = λ a b h. zero_at e a b (written_beside f _ _ _ s.processors processor-low s.beside a b h);
+      below = λ a b h. zero_at e a b (written_below f _ _ _ s.tasks task_low s.below a b h);
+      beside = λ a b h. zero_at e a b (written_beside f _ _ _ s.processors processor_low s.beside a b h);
     }
