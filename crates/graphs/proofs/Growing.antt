@@ -1,99 +1,104 @@
 -- One more node reached.
-use Rattle.std.proofs.Common.{◌≡◌, ℕ, zero, suc, ◌+◌, ◌<◌, ◌≤◌, Bool, true, false, eqb, List, length, get_or, set, replicate, is_some, Some, None, Option, sym, refl, ap, ◌∙◌, subst, subst₂, ⊎_elim, arith, length-set, get_or-set_other, get_or-set_same}
-use Rattle.std.proofs.lemmas.Bool.{cases_eq, ne_eqb, eq-eqb, true≢false, false≢true}
-use Rattle.graphs.specs.Graphs.{Shape, Small, Row, at}
-use Rattle.graphs.specs.Search.{depth_of, left_out, Hop, Grown, Owned, Found}
-use Rattle.counting.proofs.Counts.{count_same, count_without, without, without_other, without_same, count_le}
+use Rattle.std.proofs.Common.{◌≡◌, ℕ, suc, ◌<◌, ◌≢◌, cond, eqb, length, set, replicate, is_some, Some, None, Option, sym, refl, ap, ◌∙◌, subst, ⊎_elim, arith, length-set, get_or-set_other, get_or-set_same}
+use lib.ListN.{length-replicate}
+use Rattle.std.specs.Prelude.{IsSome, IsNone}
+use Rattle.std.proofs.lemmas.Bool.{cases_eq, ne_eqb, eq-eqb, both_ways}
+use Rattle.graphs.specs.Graphs.{Shape, Row, at}
+use Rattle.graphs.specs.Search.{Hops, hop_to, Fresh, Step, Edge, Grown, Owned, Found}
+use Rattle.graphs.proofs.Tables.{filled, some_of, none_of}
+use Rattle.graphs.specs.declared.matching.Hop.{Hop}
+use Rattle.graphs.specs.declared.matching.Hop.TheVariants.{FromStart, FromOwnerOf}
 
-module _ (g : Shape) (depth : List ℕ) (to d : ℕ) (inside : to < g.seconds) (fits : to < length depth) (new : depth_of depth to ≡ 0) (some : 0 < d) where
-  pub fewer_left : left_out g depth ≡ suc (left_out g (set depth to d))
-  fewer_left =
-      let out : ℕ → Bool = λ b. eqb (depth_of depth b) 0 in
-      let here : depth_of (set depth to d) to ≡ d = get_or-set_same depth to d 0 fits in
-      let same : (i : ℕ) → i < g.seconds → without out to i ≡ eqb (depth_of (set depth to d) i) 0 = λ i l. ⊎_elim
-      (λ e. subst (λ j. without out to j ≡ eqb (depth_of (set depth to d) j) 0) (sym e) (without_same out to ∙ sym (ne_eqb (depth_of (set depth to d) to) 0 (λ z. omega arith))))
-      (λ ne. sym (without_other out to i ne) ∙ ap (λ x. eqb x 0) (sym (get_or-set_other depth to i d 0 ne)))
-      (cases_eq i to) in
-      count_without g.seconds out to inside (eq-eqb (depth_of depth to) 0 new) ∙ ap suc (count_same g.seconds (without out to) (λ b. eqb (depth_of (set depth to d) b) 0) same)
+-- the hops before a node is reached
+pub grown_none : (g : Shape) (start : ℕ) (owner : Row) → Grown g start owner (replicate 64 None)
+grown_none g start owner = record {
+  wide = length-replicate {A = Option Hop} 64 None;
+  turn = λ b. 0;
+  tree = λ r b h e low. let none = filled {A = Option Hop} None 64 b in absurd (cc);
+}
 
-  -- a way stands after one more node is reached
-  hop_after : (start : ℕ) (owner : Row) (b v e : ℕ) → Hop g start owner depth b v e → Hop g start owner (set depth to d) b v e
-  hop_after start owner b v e h = record {
-    inside = h.inside;
-    from_start = h.from_start;
-    from_owner = λ l.
-        let (a, o, j, s) = h.from_owner l in
-        let ne : v ≡ to → ⊥ = λ q. omega (arith, ap (depth_of depth) q) in
-        (a, o, j, ap suc (get_or-set_other depth to v d 0 ne) ∙ s);
+pub owned_none : (owner : Row) → Owned owner (replicate 64 None)
+owned_none owner b some = absurd (both_ways (is_some (hop_to (replicate 64 None) b)) (ap is_some (filled {A = Option Hop} None 64 b)) some)
+
+-- what a step reaches is a neighbour of some node
+stepped : (g : Shape) (start : ℕ) (owner : Row) (hops : Hops) (to : ℕ) (hop : Hop) → Step g start owner hops to hop → (a : ℕ) × Fresh g hops a to
+stepped g start owner hops to FromStart fresh = (start, fresh)
+stepped g start owner hops to (FromOwnerOf c) (_, (a, _, fresh)) = (a, fresh)
+
+-- the turn after that of the node that a hop starts from
+abbrev next : (ℕ → ℕ) → Hop → ℕ
+next turn FromStart = 0
+next turn (FromOwnerOf c) = suc (turn c)
+
+module _ (g : Shape) (start : ℕ) (owner : Row) (hops : Hops) (to : ℕ) (hop : Hop) (fits : to < length hops) (free : IsNone (hop_to hops to)) where
+  abbrev after : Hops
+  after = set hops to (Some hop)
+
+  there : hop_to after to ≡ Some hop
+  there = get_or-set_same hops to (Some hop) None fits
+
+  else : (b : ℕ) → b ≢ to → hop_to after b ≡ hop_to hops b
+  else b ne = get_or-set_other hops to b (Some hop) None ne
+
+  known : (b : ℕ) → IsSome (hop_to hops b) → b ≢ to
+  known b some e = both_ways (is_some (hop_to hops to)) free (ap (λ x. is_some (hop_to hops x)) (sym e) ∙ some)
+
+  kept : (b : ℕ) → IsSome (hop_to hops b) → IsSome (hop_to after b)
+  kept b some = ap is_some (else b (known b some)) ∙ some
+
+  module _ (turn : ℕ → ℕ) where
+    abbrev turn_after : ℕ → ℕ
+    turn_after b = cond (eqb b to) (next turn hop) (turn b)
+
+    turn_else : (b : ℕ) → b ≢ to → turn_after b ≡ turn b
+    turn_else b ne = ap (λ x. cond x (next turn hop) (turn b)) (ne_eqb b to ne)
+
+    turn_there : turn_after to ≡ next turn hop
+    turn_there = ap (λ x. cond x (next turn hop) (turn to)) (eq-eqb to to refl)
+
+    edge_else : (b : ℕ) (h : Hop) → b ≢ to → Edge g start owner hops turn b h → Edge g start owner after turn_after b h
+    edge_else b FromStart ne edge = edge
+    edge_else b (FromOwnerOf c) ne (earlier, some, owns) = (omega (arith, turn_else b ne, turn_else c (known c some)), kept c some, owns)
+
+  owned_more : IsSome (at owner to) → Owned owner hops → Owned owner after
+  owned_more owns owned b some = ⊎_elim
+      (λ e. let (a, is) = some_of (at owner to) owns in (a, ap (at owner) e ∙ is))
+      (λ ne. owned b (ap is_some (sym (else b ne)) ∙ some))
+      (cases_eq b to)
+
+edge_there : (g : Shape) (start : ℕ) (owner : Row) (hops : Hops) (to : ℕ) (hop : Hop) (fits : to < length hops) (free : IsNone (hop_to hops to)) (turn : ℕ → ℕ) → Step g start owner hops to hop → Edge g start owner (after g start owner hops to hop fits free) (turn_after g start owner hops to hop fits free turn) to hop
+edge_there g start owner hops to FromStart fits free turn fresh = fresh.edge
+edge_there g start owner hops to (FromOwnerOf c) fits free turn (some, (a, owns, fresh)) = (
+  omega (arith, turn_there g start owner hops to (FromOwnerOf c) fits free turn, turn_else g start owner hops to (FromOwnerOf c) fits free turn c (known g start owner hops to (FromOwnerOf c) fits free c some)),
+  kept g start owner hops to (FromOwnerOf c) fits free c some,
+  (a, owns, fresh.edge),
+)
+
+module _ (g : Shape) (start : ℕ) (owner : Row) (hops : Hops) (to : ℕ) (hop : Hop) (grown : Grown g start owner hops) (step : Step g start owner hops to hop) where
+  new : (a : ℕ) × Fresh g hops a to
+  new = stepped g start owner hops to hop step
+
+  fits_in : to < length hops
+  fits_in = omega (arith, new.1.fits, grown.wide)
+
+  pub grow : Grown g start owner (set hops to (Some hop))
+  grow = record {
+    wide = length-set hops to (Some hop) ∙ grown.wide;
+    turn = turn_after g start owner hops to hop fits_in new.1.unreached grown.turn;
+    tree = λ r b h e low. ⊎_elim
+        (λ q.
+        let P : ℕ → Type 0 = λ x. (x < g.seconds) × (x < 64) × Edge g start owner (set hops to (Some hop)) (turn_after g start owner hops to hop fits_in new.1.unreached grown.turn) x h in
+        let same : hop ≡ h = let t = there g start owner hops to hop fits_in new.1.unreached in let u = ap (hop_to (set hops to (Some hop))) (sym q) ∙ e in cc in
+        let Q : Hop → Type 0 = λ x. Edge g start owner (set hops to (Some hop)) (turn_after g start owner hops to hop fits_in new.1.unreached grown.turn) to x in
+        subst P (sym q) (new.1.inside, new.1.fits, subst Q same (edge_there g start owner hops to hop fits_in new.1.unreached grown.turn step)))
+        (λ ne.
+        let (inside, fits, edge) = grown.tree (grown.turn b) b h (sym (else g start owner hops to hop fits_in new.1.unreached b ne) ∙ e) (omega arith) in
+        (inside, fits, edge_else g start owner hops to hop fits_in new.1.unreached grown.turn b h ne edge))
+        (cases_eq b to);
   }
 
-pub zeros : (n k : ℕ) → ◌≡◌ {A = ℕ} (get_or (replicate n 0) k 0) 0
-zeros zero k = refl
-zeros (suc n) zero = refl
-zeros (suc n) (suc k) = zeros n k
+  pub owned : IsSome (at owner to) → Owned owner hops → Owned owner (set hops to (Some hop))
+  owned = owned_more g start owner hops to hop fits_in new.1.unreached
 
--- the tables before a node is reached
-pub grown_none : (g : Shape) (start : ℕ) (owner : Row) (depth via : List ℕ) → length depth ≡ 64 → length via ≡ 64 → ((k : ℕ) → depth_of depth k ≡ 0) → Small g → Grown g start owner depth via
-grown_none g start owner depth via dw vw blank small = record {
-  depth_wide = dw;
-  via_wide = vw;
-  bound = λ k. omega (arith, blank k, count_le g.seconds (λ b. eqb (depth_of depth b) 0));
-  tree = λ b pos low. absurd (omega (arith, blank b));
-}
-
-pub owned_none : (owner : Row) (depth : List ℕ) → ((k : ℕ) → depth_of depth k ≡ 0) → Owned owner depth
-owned_none owner depth blank b pos = absurd (omega (arith, blank b))
-
-pub grow : (g : Shape) (start : ℕ) (owner : Row) (depth via : List ℕ) → Small g → Grown g start owner depth via → (to v d : ℕ) → depth_of depth to ≡ 0 → 0 < d → Hop g start owner depth to v d → Grown g start owner (set depth to d) (set via to v)
-grow g start owner depth via small grown to v d new some hop = record {
-  depth_wide = length-set depth to d ∙ grown.depth_wide;
-  via_wide = length-set via to v ∙ grown.via_wide;
-  bound = λ k. ⊎_elim
-      (λ e. let here : depth_of (set depth to d) k ≡ d = ap (depth_of (set depth to d)) e ∙ now_at in omega (arith, left, bound_new))
-      (λ ne. omega (arith, left, get_or-set_other depth to k d 0 ne, grown.bound k))
-      (cases_eq k to);
-  tree = λ b pos low. ⊎_elim (here b) (there b pos low) (cases_eq b to);
-}
-  where
-    fits : to < length depth
-    fits = omega (arith, grown.depth_wide, small.seconds_few, hop.inside)
-
-    fits_via : to < length via
-    fits_via = omega (arith, grown.via_wide, small.seconds_few, hop.inside)
-
-    now_at : depth_of (set depth to d) to ≡ d
-    now_at = get_or-set_same depth to d 0 fits
-
-    left : left_out g depth ≡ suc (left_out g (set depth to d))
-    left = fewer_left g depth to d hop.inside fits new some
-
-    bound_new : d + left_out g (set depth to d) ≤ 64
-    bound_new = ⊎_elim (λ e. omega (arith, left, grown.bound to)) (λ ne. let far : 1 < d = omega arith in omega (arith, left, grown.bound v, (hop.from_owner far).3)) (cases_eq d 1)
-
-    here : (b : ℕ) → b ≡ to → Hop g start owner (set depth to d) b (get_or (set via to v) b 0) (depth_of (set depth to d) b)
-    here b e = subst (λ x. Hop g start owner (set depth to d) x (get_or (set via to v) x 0) (depth_of (set depth to d) x)) (sym e)
-        (subst₂ (λ x y. Hop g start owner (set depth to d) to x y) (sym (get_or-set_same via to v 0 fits_via)) (sym now_at) (hop_after g depth to d hop.inside fits new some start owner to v d hop))
-
-    there : (b : ℕ) → 0 < depth_of (set depth to d) b → depth_of (set depth to d) b ≤ 64 → (b ≡ to → ⊥) → Hop g start owner (set depth to d) b (get_or (set via to v) b 0) (depth_of (set depth to d) b)
-    there b pos low ne =
-        let same : depth_of (set depth to d) b ≡ depth_of depth b = get_or-set_other depth to b d 0 ne in
-        subst₂ (λ x y. Hop g start owner (set depth to d) b x y) (sym (get_or-set_other via to b v 0 ne)) (sym same)
-        (hop_after g depth to d hop.inside fits new some start owner b (get_or via b 0) (depth_of depth b) (grown.tree b (omega arith) (omega arith)))
-
-pub owned_more : (owner : Row) (depth : List ℕ) (to d a : ℕ) → at owner to ≡ Some a → Owned owner depth → Owned owner (set depth to d)
-owned_more owner depth to d a has owned b pos = ⊎_elim (λ e. (a, ap (at owner) e ∙ has)) (λ ne. owned b (omega (arith, get_or-set_other depth to b d 0 ne))) (cases_eq b to)
-
-pub some_of : (o : Option ℕ) → is_some o ≡ true → (a : ℕ) × (o ≡ Some a)
-some_of None e = absurd (false≢true e)
-some_of (Some a) e = (a, refl)
-
-pub none_of : (o : Option ℕ) → is_some o ≡ false → o ≡ None
-none_of None e = refl
-none_of (Some a) e = absurd (true≢false e)
-
-pub found : (g : Shape) (start : ℕ) (owner : Row) (depth via : List ℕ) → Small g → Grown g start owner depth via → (to v d : ℕ) → depth_of depth to ≡ 0 → 0 < d → Hop g start owner depth to v d → at owner to ≡ None → Found g start owner (set depth to d) (set via to v) to
-found g start owner depth via small grown to v d new some hop free = record {
-  grown = grow g start owner depth via small grown to v d new some hop;
-  free = free;
-  reached = let fits : to < length depth = omega (arith, grown.depth_wide, small.seconds_few, hop.inside) in omega (arith, get_or-set_same depth to d 0 fits);
-}
+  pub found : IsNone (at owner to) → Found g start owner (set hops to (Some hop)) to
+  found none = record { grown = grow; free = none_of (at owner to) none; reached = ap is_some (there g start owner hops to hop fits_in new.1.unreached) }

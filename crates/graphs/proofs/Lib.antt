@@ -1,3 +1,5 @@
+pub mod Tables
+pub mod Distinct
 pub mod Growing
 pub mod Moving
 pub mod Hall

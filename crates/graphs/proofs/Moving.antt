@@ -1,9 +1,13 @@
 -- A matching after one move, and after its last.
-use Rattle.std.proofs.Common.{◌≡◌, ℕ, zero, suc, ◌+◌, ◌<◌, ◌≤◌, Bool, true, false, ◌⊎◌, List, get_or, set, replicate, Some, None, Option, sym, refl, ap, ◌∙◌, subst, inl, inr, ⊎_elim, arith, length-set, get_or-set_other, get_or-set_same}
+use Rattle.std.proofs.Common.{◌≡◌, ℕ, ◌+◌, ◌<◌, ◌≤◌, Bool, true, false, ◌⊎◌, set, replicate, is_some, Some, None, Option, sym, ap, ◌∙◌, subst, inl, inr, ⊎_elim, arith, length-set, get_or-set_other, get_or-set_same}
 use lib.ListN.{length-replicate}
 use Rattle.std.proofs.lemmas.Bool.{cases_eq, both_ways}
-use Rattle.graphs.specs.Graphs.{Shape, Small, Row, at}
-use Rattle.graphs.specs.Search.{depth_of, Hop, Found, Matched, Walk}
+use Rattle.std.specs.Prelude.{IsSome}
+use Rattle.graphs.specs.Graphs.{Shape, Row, at}
+use Rattle.graphs.specs.Search.{Hops, hop_to, Edge, Found, Matched, Walk}
+use Rattle.graphs.proofs.Tables.{filled, some_of}
+use Rattle.graphs.specs.declared.matching.Hop.{Hop}
+use Rattle.graphs.specs.declared.matching.Hop.TheVariants.{FromStart, FromOwnerOf}
 
 clash : (o : Option ℕ) (a : ℕ) → o ≡ None → o ≡ Some a → ⊥
 clash o a p q = let z : ◌≡◌ {A = ℕ} 0 1 = cc in omega arith
@@ -51,19 +55,19 @@ module _ (g : Shape) (marked : ℕ → Bool) (s : ℕ) (owner : Row) (b : ℕ) (
   -- a free node for the owner of another, which is then free
   module _ (c a : ℕ) (near : c < 64) (owns : at owner c ≡ Some a) where
     abbrev moved_row : Row
-    moved_row = set (set owner b (Some a)) c None
+    moved_row = set (set owner c None) b (Some a)
 
     apart_nodes : b ≡ c → ⊥
     apart_nodes e = clash (at owner b) a free (ap (at owner) e ∙ owns)
 
     pub moved_there : at moved_row c ≡ None
-    moved_there = get_or-set_same (set owner b (Some a)) c None None (omega (arith, m.wide, length-set owner b (Some a)))
+    moved_there = get_or-set_other (set owner c None) b c (Some a) None (λ e. apart_nodes (sym e)) ∙ get_or-set_same owner c None None (omega (arith, m.wide))
 
     moved_here : at moved_row b ≡ Some a
-    moved_here = get_or-set_other (set owner b (Some a)) c b None None apart_nodes ∙ get_or-set_same owner b (Some a) None (omega (arith, m.wide))
+    moved_here = get_or-set_same (set owner c None) b (Some a) None (omega (arith, m.wide, length-set owner c None))
 
     pub moved_else : (x : ℕ) → (x ≡ b → ⊥) → (x ≡ c → ⊥) → at moved_row x ≡ at owner x
-    moved_else x nb nc = get_or-set_other (set owner b (Some a)) c x None None nc ∙ get_or-set_other owner b x (Some a) None nb
+    moved_else x nb nc = get_or-set_other (set owner c None) b x (Some a) None nb ∙ get_or-set_other owner c x None None nc
 
     came : (x e : ℕ) → at moved_row x ≡ Some e → ((x ≡ b) × (e ≡ a)) ⊎ ((x ≡ c → ⊥) × (at owner x ≡ Some e))
     came x e h = ⊎_elim
@@ -73,7 +77,7 @@ module _ (g : Shape) (marked : ℕ → Bool) (s : ℕ) (owner : Row) (b : ℕ) (
 
     pub moved : g.joined a b ≡ true → Matched g marked s moved_row
     moved edge = record {
-      wide = length-set (set owner b (Some a)) c None ∙ length-set owner b (Some a) ∙ m.wide;
+      wide = length-set (set owner c None) b (Some a) ∙ length-set owner c None ∙ m.wide;
       edges = λ x e h. ⊎_elim
           (λ (q, r). let (l, i, j, k) = m.edges c a owns in (omega arith, subst (λ y. y < g.seconds) (sym q) inside, ap (λ y. g.joined y x) r ∙ ap (g.joined a) q ∙ edge, ap marked r ∙ k))
           (λ (nc, o). m.edges x e o)
@@ -88,76 +92,73 @@ module _ (g : Shape) (marked : ℕ → Bool) (s : ℕ) (owner : Row) (b : ℕ) (
           (cases_eq x c);
     }
 
--- the walk back along the ways
-pub walk_starts : (g : Shape) (marked : ℕ → Bool) (start : ℕ) (owner : Row) (depth via : List ℕ) (b : ℕ) → Matched g marked start owner → Found g start owner depth via b → Walk g marked start owner depth via b
-walk_starts g marked start owner depth via b m f = record {
+-- the walk back along the hops
+pub walk_starts : (g : Shape) (marked : ℕ → Bool) (start : ℕ) (owner : Row) (hops : Hops) (b : ℕ) → Matched g marked start owner → Found g start owner hops b → Walk g marked start owner hops b
+walk_starts g marked start owner hops b m f = record {
   matched = m;
-  inside = (f.grown.tree b f.reached (omega (arith, f.grown.bound b))).inside;
+  wide = f.grown.wide;
   free = f.free;
   reached = f.reached;
-  tree = λ x pos low. f.grown.tree x pos (omega (arith, f.grown.bound x));
+  turn = f.grown.turn;
+  tree = f.grown.tree (f.grown.turn b);
 }
 
-module _ (g : Shape) (marked : ℕ → Bool) (start : ℕ) (owner : Row) (depth via : List ℕ) (b : ℕ) (small : Small g) (w : Walk g marked start owner depth via b) where
-  pub walk_hop : Hop g start owner depth b (get_or via b 0) (depth_of depth b)
-  walk_hop = w.tree b w.reached (omega arith)
+module _ (g : Shape) (marked : ℕ → Bool) (start : ℕ) (owner : Row) (hops : Hops) (b : ℕ) (w : Walk g marked start owner hops b) where
+  pub walk_edge : (h : Hop) → hop_to hops b ≡ Some h → (b < g.seconds) × (b < 64) × Edge g start owner hops w.turn b h
+  walk_edge h is = w.tree b h is (omega arith)
 
-  pub walk_near : 1 < depth_of depth b → get_or via b 0 < g.seconds
-  walk_near far = let (a, o, j, s) = walk_hop.from_owner far in (w.matched.edges (get_or via b 0) a o).1
+  module _ (c : ℕ) (is : hop_to hops b ≡ Some (FromOwnerOf c)) where
+    earlier : w.turn c < w.turn b
+    earlier = (walk_edge (FromOwnerOf c) is).2.0
 
-  pub walk_less : 1 < depth_of depth b → depth_of depth (get_or via b 0) < depth_of depth b
-  walk_less far = omega (arith, (walk_hop.from_owner far).3)
+    known : IsSome (hop_to hops c)
+    known = (walk_edge (FromOwnerOf c) is).2.1
 
-  pub walk_on : 1 < depth_of depth b → (x : Option ℕ) → x ≡ at owner (get_or via b 0) → Walk g marked start (set (set owner b x) (get_or via b 0) None) depth via (get_or via b 0)
-  walk_on far x is = subst (λ y. Walk g marked start (set (set owner b y) c None) depth via c) (sym (is ∙ o)) (record {
-    matched = moved g marked start owner b w.matched w.inside fits w.free c a near o j;
-    inside = walk_near far;
-    free = moved_there g marked start owner b w.matched w.inside fits w.free c a near o;
-    reached = omega (arith, s);
-    tree = λ y pos low. let h = w.tree y pos (omega (arith, s)) in record {
-      inside = h.inside;
-      from_start = h.from_start;
-      from_owner = λ l. let (e, p, q, r) = h.from_owner l in
-          (e, moved_else g marked start owner b w.matched w.inside fits w.free c a near o (get_or via y 0) (λ z. omega (arith, s, r, ap (depth_of depth) z)) (λ z. omega (arith, s, r, ap (depth_of depth) z)) ∙ p, q, r);
-    };
-  })
-    where
-      c : ℕ
-      c = get_or via b 0
+    pub walk_near : c < 64
+    walk_near = let (h, e) = some_of (hop_to hops c) known in (w.tree c h e (omega (arith, earlier))).1
 
-      hop : (a : ℕ) × (at owner c ≡ Some a) × (g.joined a b ≡ true) × (suc (depth_of depth c) ≡ depth_of depth b)
-      hop = walk_hop.from_owner far
+    held : (a : ℕ) × (at owner c ≡ Some a) × (g.joined a b ≡ true)
+    held = (walk_edge (FromOwnerOf c) is).2.2
 
-      a : ℕ
-      a = hop.0
+    abbrev a : ℕ
+    a = held.0
 
-      o : at owner c ≡ Some a
-      o = hop.1
+    owns : at owner c ≡ Some a
+    owns = held.1
 
-      j : g.joined a b ≡ true
-      j = hop.2
+    abbrev after : Row
+    after = set (set owner c None) b (at owner c)
 
-      s : suc (depth_of depth c) ≡ depth_of depth b
-      s = hop.3
+    left : (x : ℕ) → w.turn x < w.turn b → hop_to (set hops b None) x ≡ hop_to hops x
+    left x l = get_or-set_other hops b x None None (λ e. omega (arith, ap w.turn e))
 
-      fits : b < 64
-      fits = omega (arith, w.inside, small.seconds_few)
+    same : (x : ℕ) → w.turn x < w.turn c → at after x ≡ at owner x
+    same x l = rw owns (moved_else g marked start owner b w.matched (walk_edge (FromOwnerOf c) is).0 (walk_edge (FromOwnerOf c) is).1 w.free c a walk_near owns x (λ e. omega (arith, earlier, ap w.turn e)) (λ e. omega (arith, ap w.turn e)))
 
-      near : c < 64
-      near = omega (arith, walk_near far, small.seconds_few)
+    edge_after : (y : ℕ) (h : Hop) → w.turn y ≤ w.turn c → Edge g start owner hops w.turn y h → Edge g start after (set hops b None) w.turn y h
+    edge_after y FromStart l edge = edge
+    edge_after y (FromOwnerOf x) l (before, some, (e, o, j)) = (before, ap is_some (left x (omega (arith, earlier))) ∙ some, (e, same x (omega arith) ∙ o, j))
 
-  pub walk_ends : depth_of depth b ≤ 1 → marked start ≡ true → Matched g marked (start + 1) (set owner b (Some start))
-  walk_ends low chosen = finished g marked start owner b w.matched w.inside (omega (arith, w.inside, small.seconds_few)) w.free (walk_hop.from_start (omega (arith, w.reached))) chosen
+    walked : Walk g marked start after (set hops b None) c
+    walked = record {
+      matched = rw owns (moved g marked start owner b w.matched (walk_edge (FromOwnerOf c) is).0 (walk_edge (FromOwnerOf c) is).1 w.free c a walk_near owns held.2);
+      wide = length-set hops b None ∙ w.wide;
+      free = rw owns (moved_there g marked start owner b w.matched (walk_edge (FromOwnerOf c) is).0 (walk_edge (FromOwnerOf c) is).1 w.free c a walk_near owns);
+      reached = ap is_some (left c earlier) ∙ known;
+      turn = w.turn;
+      tree = λ y h e l. let (inside, fits, edge) = w.tree y h (sym (left y (omega (arith, earlier))) ∙ e) (omega (arith, earlier)) in (inside, fits, edge_after y h l edge);
+    }
 
-blank : (n b : ℕ) → ◌≡◌ {A = Option ℕ} (get_or (replicate n None) b None) None
-blank zero b = refl
-blank (suc n) zero = refl
-blank (suc n) (suc b) = blank n b
+    pub walk_on : (x : Option ℕ) → x ≡ at owner c → Walk g marked start (set (set owner c None) b x) (set hops b None) c
+    walk_on x same = subst (λ y. Walk g marked start (set (set owner c None) b y) (set hops b None) c) (sym same) walked
+
+  pub walk_ends : hop_to hops b ≡ Some FromStart → marked start ≡ true → Matched g marked (start + 1) (set owner b (Some start))
+  walk_ends is chosen = let (inside, fits, edge) = walk_edge FromStart is in finished g marked start owner b w.matched inside fits w.free edge chosen
 
 pub matched_none : (g : Shape) (marked : ℕ → Bool) → Matched g marked 0 (replicate 64 None)
 matched_none g marked = record {
   wide = length-replicate {A = Option ℕ} 64 None;
-  edges = λ b a h. absurd (clash (at (replicate 64 None) b) a (blank 64 b) h);
-  apart = λ b c a h k. absurd (clash (at (replicate 64 None) b) a (blank 64 b) h);
+  edges = λ b a h. absurd (clash (at (replicate 64 None) b) a (filled {A = Option ℕ} None 64 b) h);
+  apart = λ b c a h k. absurd (clash (at (replicate 64 None) b) a (filled {A = Option ℕ} None 64 b) h);
   all = λ a l k. absurd (omega arith);
 }

@@ -1,3 +1,4 @@
 pub mod Graphs
 pub mod Covers
+pub mod Rows
 pub mod Search

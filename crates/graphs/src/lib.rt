@@ -2,7 +2,9 @@
 #![tactic(auto)]
 
 mod matching;
+mod rows;
 mod sides;
 
 pub use matching::search;
+pub use rows::no_entry_twice;
 pub use sides::{Graph, Turned};

@@ -1,8 +1,10 @@
-use Rattle.graphs.specs.Search.{Walk, flag, depth_of}
+use Rattle.std.proofs.Common.{is_some}
+use Rattle.std.specs.List.{count_by}
+use Rattle.graphs.specs.Search.{Walk, flag}
 use Rattle.graphs.proofs.matching.admit.Given as goal
 
-abbrev pub invariant-loop-b : goal.invariant-loop-b
-invariant-loop-b g l = Walk (g.G.Graph.shape l.graph) (flag l.marked) l.start l.owner l.trail.depth l.trail.via l.b
+abbrev pub invariant-loop-c : goal.invariant-loop-c
+invariant-loop-c g l = Walk (g.G.Graph.shape l.graph) (flag l.marked) l.start l.owner l.hops l.b
 
-abbrev pub decreases-loop-b : goal.decreases-loop-b
-decreases-loop-b g l = depth_of l.trail.depth l.b
+abbrev pub decreases-loop-c : goal.decreases-loop-c
+decreases-loop-c g l = count_by is_some l.hops

@@ -1,8 +1,10 @@
-use Rattle.graphs.specs.Search.{Grown, Owned, left_out}
+use Rattle.std.proofs.Common.{is_none}
+use Rattle.std.specs.List.{count_by}
+use Rattle.graphs.specs.Search.{Grown, Owned}
 use Rattle.graphs.proofs.matching.explore.Given as goal
 
-abbrev pub invariant-loop-step : goal.invariant-loop-step
-invariant-loop-step g l = Grown (g.G.Graph.shape l.graph) l.start l.owner l.depth l.via × Owned l.owner l.depth
+abbrev pub invariant-loop-to : goal.invariant-loop-to
+invariant-loop-to g l = Grown (g.G.Graph.shape l.graph) l.start l.owner l.hops × Owned l.owner l.hops
 
-abbrev pub decreases-loop-step : goal.decreases-loop-step
-decreases-loop-step g l = left_out (g.G.Graph.shape l.graph) l.depth
+abbrev pub decreases-loop-to : goal.decreases-loop-to
+decreases-loop-to g l = count_by is_none l.hops

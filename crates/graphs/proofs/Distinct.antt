@@ -1,0 +1,27 @@
+-- The table of the entries seen.
+use Rattle.std.proofs.Common.{◌≡◌, ℕ, ◌<◌, ◌≤◌, Bool, false, List, length, replicate, Some, None, ⊎_elim, arith}
+use lib.ListN.{length-replicate}
+use Rattle.std.proofs.lemmas.Bool.{cases_lt, both_ways}
+use Rattle.std.proofs.lemmas.List.{get_or_past}
+use Rattle.graphs.specs.Graphs.{Row, at}
+use Rattle.graphs.specs.Search.{flag}
+use Rattle.graphs.specs.Rows.{Distinct, Seen}
+use Rattle.graphs.proofs.Tables.{filled}
+
+pub seen_none : (bound : ℕ) (row : Row) → Seen bound row (replicate 256 false) 0
+seen_none bound row = record {
+  wide = length-replicate {A = Bool} 256 false;
+  small = λ p t l. absurd (omega arith);
+  apart = λ p q t l. absurd (omega arith);
+  known = λ t h. absurd (both_ways (flag (replicate 256 false) t) (filled false 256 t) h);
+  marked = λ p t l. absurd (omega arith);
+}
+
+pub seen_all : (bound : ℕ) (row : Row) (seen : List Bool) (k : ℕ) → Seen bound row seen k → length row ≤ k → Distinct bound row
+seen_all bound row seen k w all = record {
+  small = λ p t h. w.small p t (inside p t h) h;
+  apart = λ p q t h m. w.apart p q t (inside p t h) (inside q t m) h m;
+}
+  where
+    inside : (p t : ℕ) → at row p ≡ Some t → p < k
+    inside p t h = ⊎_elim (λ l. omega arith) (λ l. let e = get_or_past row p None l in absurd (cc)) (cases_lt p (length row))
