@@ -1,37 +1,37 @@
 -- What a write to a table of lines leaves.
-use Rattle.std.proofs.Common.{◌≡◌, ℕ, ◌<◌, ◌≤◌, true, cond, ◌&&◌, eqb, ltb, List, [], length, get_or, set, sym, refl, ap, ◌∙◌, subst, ⊎_elim, arith}
+use Rattle.std.proofs.Common.{◌≡◌, ℕ, ◌<◌, ◌≤◌, cond, eqb, List, [], length, get_or, set, replicate, sym, refl, ap, ◌∙◌, subst, ⊎_elim, arith}
 use mathlib.Core.Path.{fun_ext}
-use Rattle.std.proofs.lemmas.List.{get_or-set_same, get_or-set_other, get_or-replicate, get_or_past}
-use Rattle.std.proofs.lemmas.Bool.{cases_eq, eq-eqb, ne_eqb, cases_lt, cond-true, and_from}
+use Rattle.std.proofs.lemmas.List.{get_or-set_other, get_or-replicate, get_or_past}
+use Rattle.std.proofs.lemmas.Bool.{cases_lt}
 use Rattle.std.proofs.lemmas.Bool.Decides.{nat_tests}
-use Rattle.sheets.specs.Cells.{cell, no_line, no_lines, nothing, written, cleared}
-use Rattle.sheets.specs.Loads.{Load}
-use Rattle.sheets.specs.Calls.{from_to, most, unloaded, with_ticks, after_open, after_withdraw}
+use Rattle.std.proofs.lemmas.Grind.{get_or-set_at}
+use Rattle.sheets.specs.Cells.{cell, nothing, written, cleared}
+
+-- a line of 16 pairs without ticks, and 64 of them
+abbrev no_line : List ℕ
+no_line = replicate 16 0
+
+abbrev no_lines : List (List ℕ)
+no_lines = replicate 64 no_line
 
 idle_at : (p : ℕ) → get_or no_line p 0 ≡ 0
-idle_at p = ⊎_elim (λ h. get_or-replicate 16 p 0 0 h) (λ h. get_or_past no_line p 0 h) (cases_lt p 16)
+idle_at p = grind (arith, get_or-replicate, get_or_past)
 
-empty_cell : (t p : ℕ) → cell (no_lines) t p ≡ 0
+empty_cell : (t p : ℕ) → cell no_lines t p ≡ 0
 empty_cell t p =
     ⊎_elim (λ h. ap (λ (r : List ℕ). get_or r p 0) (get_or-replicate 64 t no_line [] h) ∙ idle_at p)
-    (λ h. ap (λ (r : List ℕ). get_or r p 0) (get_or_past (no_lines) t [] h)) (cases_lt t 64)
+    (λ h. ap (λ (r : List ℕ). get_or r p 0) (get_or_past no_lines t [] h)) (cases_lt t 64)
 
-pub empty_is : cell (no_lines) ≡ nothing
+pub empty_is : cell no_lines ≡ nothing
 empty_is = fun_ext (λ t. fun_ext (λ p. empty_cell t p))
 
 module _ (rows : List (List ℕ)) (tall : length rows ≡ 64) (t : ℕ) (ht : t < 64) where
   -- a line at the place t, and the others
   set_line : (row : List ℕ) (a b : ℕ) → cell (set rows t row) a b ≡ cond (eqb a t) (get_or row b 0) (cell rows a b)
-  set_line row a b =
-      ⊎_elim
-      (λ s. let here : t < length rows = omega arith in
-      subst (λ (i : ℕ). get_or (get_or (set rows t row) i []) b 0 ≡ cond (eqb i t) (get_or row b 0) (cell rows i b)) (sym s)
-      (ap (λ (r : List ℕ). get_or r b 0) (get_or-set_same rows t row [] here) ∙ ap (λ v. cond v (get_or row b 0) (cell rows t b)) (sym (eq-eqb t t refl))))
-      (λ n. ap (λ (r : List ℕ). get_or r b 0) (get_or-set_other rows t a row [] n) ∙ ap (λ v. cond v (get_or row b 0) (cell rows a b)) (sym (ne_eqb a t n)))
-      (cases_eq a t)
+  set_line row a b = grind (arith, nat_tests, get_or-set_at, get_or-set_other)
 
   cleared_cell : (a b : ℕ) → cell (set rows t no_line) a b ≡ cleared (cell rows) t a b
-  cleared_cell a b = set_line no_line a b ∙ ap (λ v. cond (eqb a t) v (cell rows a b)) (idle_at b)
+  cleared_cell a b = let l = set_line no_line a b in let i = idle_at b in grind arith
 
   pub cleared_is : cell (set rows t no_line) ≡ cleared (cell rows) t
   cleared_is = fun_ext (λ a. fun_ext (λ b. cleared_cell a b))
@@ -66,13 +66,3 @@ all_zero e a b = zero_at e a b refl
 
 pub all_light : {f : ℕ → ℕ → ℕ} → f ≡ nothing → (a b : ℕ) → f a b ≤ 1000000000
 all_light e a b = let k : nothing a b ≤ 1000000000 = omega arith in light_at e (λ c d. omega arith) a b
-
--- what stands after an accepted call, where the ticks are those of the call
-module _ (s : Load) (n m l : ℕ) where
-  pub opened_is : {f : ℕ → ℕ → ℕ} → from_to 1 64 n ≡ true → from_to 1 16 m ≡ true → from_to 1 most l ≡ true → f ≡ nothing → with_ticks (unloaded n m l) f ≡ after_open s n m l
-  opened_is a b c e =
-      ap (with_ticks (unloaded n m l)) e
-      ∙ sym (cond-true (from_to 1 64 n && from_to 1 16 m && from_to 1 most l) (unloaded n m l) s (and_from _ _ (and_from _ _ a b) c))
-
-pub withdrawn_is : (s : Load) (t : ℕ) {f : ℕ → ℕ → ℕ} → ltb t s.tasks ≡ true → f ≡ cleared s.ticks t → with_ticks s f ≡ after_withdraw s t
-withdrawn_is s t h e = ap (with_ticks s) e ∙ sym (cond-true (ltb t s.tasks) (with_ticks s (cleared s.ticks t)) s h)

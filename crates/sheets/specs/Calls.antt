@@ -1,16 +1,10 @@
 -- What each call on a sheet answers, and the load that it leaves: the first question that fails refuses it, and a refusal changes nothing.
-use Rattle.std.specs.Prelude.{ℕ, Bool, cond, ◌&&◌, Ok, Err, Result, nat_le, nat_lt}
+use Rattle.std.specs.Prelude.{ℕ, cond, ◌&&◌, Ok, Result, nat_le, nat_lt}
 use Rattle.sheets.specs.Cells.{nothing, written, cleared}
 use Rattle.sheets.specs.Loads.{Load}
+pub use Rattle.sheets.specs.Questions.{most, from_to, asked}
 use Rattle.sheets.specs.declared.refusals.SheetRefusal.{SheetRefusal}
 use Rattle.sheets.specs.declared.refusals.SheetRefusal.TheVariants.{TasksOutOfRange, ProcessorsOutOfRange, FrameOutOfRange, TaskOutOfRange, ProcessorOutOfRange, TicksOutOfRange}
-
--- the longest frame, and the most ticks of a pair
-abbrev pub most : ℕ
-most = 1000000000
-
-abbrev pub from_to : ℕ → ℕ → ℕ → Bool
-from_to low high n = nat_le low n && nat_le n high
 
 abbrev pub unloaded : ℕ → ℕ → ℕ → Load
 unloaded n m l = record { tasks = n; processors = m; frame = l; ticks = nothing }
@@ -26,10 +20,6 @@ with_frame s l = record { tasks = s.tasks; processors = s.processors; frame = l;
 
 abbrev pub Answer : Type 0
 Answer = Result (Unit {0}) SheetRefusal
-
--- a question, and what to answer where it fails
-abbrev pub asked : {X : Type 0} → Bool → SheetRefusal → Result X SheetRefusal → Result X SheetRefusal
-asked holds refusal next = cond holds next (Err refusal)
 
 abbrev pub open_answer : ℕ → ℕ → ℕ → Answer
 open_answer n m l =

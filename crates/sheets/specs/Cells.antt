@@ -1,17 +1,11 @@
 -- Lines of ticks, and what writing to them leaves.
-use Rattle.std.specs.Prelude.{ℕ, cond, ◌&&◌, List, [], replicate, ◌==◌, slice_index, slice_index_or}
+use Rattle.std.specs.Prelude.{ℕ, cond, ◌&&◌, List, [], ◌==◌, slice_index, slice_index_or}
 
 -- the ticks of processor p in line t
 abbrev pub cell : List (List ℕ) → ℕ → ℕ → ℕ
 cell rows t p = slice_index (slice_index_or rows t []) p
 
--- a line of 16 pairs without ticks, and 64 of them
-abbrev pub no_line : List ℕ
-no_line = replicate 16 0
-
-abbrev pub no_lines : List (List ℕ)
-no_lines = replicate 64 no_line
-
+-- a table without ticks
 abbrev pub nothing : ℕ → ℕ → ℕ
 nothing _ _ = 0
 

@@ -1,20 +1,12 @@
 // The calls on a sheet. Each goes through its questions in order, and a refusal changes nothing.
-ghost use Rattle.std.specs.Prelude.{◌≡◌, ℕ, if◌then◌else◌, Some, None, nat_lt};
+ghost use Rattle.std.specs.Prelude.{◌≡◌};
 ghost use Rattle.sheets.specs.Calls.{blank, after_open, after_set, after_withdraw, after_reframe, open_answer, set_answer, withdraw_answer, reframe_answer};
 ghost use Rattle.sheets.specs.Sheets.{load_of};
 
 use crate::refusals::SheetRefusal;
 use crate::sheet::Sheet;
+use crate::size::{MOST, Size};
 use crate::table::Table;
-
-const MOST: u32 = 1_000_000_000;
-
-// The index, where it is below the bound.
-pub(crate) fn below(index: usize, bound: usize) -> Option<usize>
-    ensures { result ≡ (if nat_lt index bound then Some index else None) }
-{
-    if index < bound { Some(index) } else { None }
-}
 
 impl Sheet {
     /// One task, one processor, a frame of one tick, no load.
@@ -22,10 +14,12 @@ impl Sheet {
         ensures { load_of result ≡ blank }
     {
         Sheet {
-            tasks: 1,
-            processors: 1,
-            frame: 1,
-            table: Table::empty(),
+            size: Size {
+                tasks: 1,
+                processors: 1,
+                frame: 1,
+            },
+            table: Table::blank(),
         }
     }
 
@@ -34,16 +28,8 @@ impl Sheet {
         ensures answer { result ≡ open_answer tasks processors frame }
         ensures state { load_of self.new ≡ after_open (load_of self.old) tasks processors frame }
     {
-        let 1..=64 = tasks else {
-            return Err(SheetRefusal::TasksOutOfRange);
-        };
-        let 1..=16 = processors else {
-            return Err(SheetRefusal::ProcessorsOutOfRange);
-        };
-        self.reframe(frame)?;
+        self.size = Size::new(tasks, processors, frame)?;
         self.table.clear();
-        self.tasks = tasks;
-        self.processors = processors;
         Ok(())
     }
 
@@ -52,12 +38,8 @@ impl Sheet {
         ensures answer { result ≡ set_answer (load_of self.old) task processor ticks }
         ensures state { load_of self.new ≡ after_set (load_of self.old) task processor ticks }
     {
-        let Some(task) = below(task, self.tasks) else {
-            return Err(SheetRefusal::TaskOutOfRange);
-        };
-        let Some(processor) = below(processor, self.processors) else {
-            return Err(SheetRefusal::ProcessorOutOfRange);
-        };
+        let task = self.task(task)?;
+        let processor = self.processor(processor)?;
         let 0..=MOST = ticks else {
             return Err(SheetRefusal::TicksOutOfRange);
         };
@@ -70,9 +52,7 @@ impl Sheet {
         ensures answer { result ≡ withdraw_answer (load_of self.old) task }
         ensures state { load_of self.new ≡ after_withdraw (load_of self.old) task }
     {
-        let Some(task) = below(task, self.tasks) else {
-            return Err(SheetRefusal::TaskOutOfRange);
-        };
+        let task = self.task(task)?;
         self.table.clear_line(task);
         Ok(())
     }
@@ -82,10 +62,7 @@ impl Sheet {
         ensures answer { result ≡ reframe_answer frame }
         ensures state { load_of self.new ≡ after_reframe (load_of self.old) frame }
     {
-        let 1..=MOST = frame else {
-            return Err(SheetRefusal::FrameOutOfRange);
-        };
-        self.frame = frame;
+        self.size = self.size.with_frame(frame)?;
         Ok(())
     }
 }

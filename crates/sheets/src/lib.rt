@@ -4,8 +4,10 @@
 mod calls;
 mod refusals;
 mod sheet;
+mod size;
 mod table;
 mod views;
 
-pub use refusals::SheetRefusal;
+pub use refusals::{SheetRefusal, SizeRefusal};
 pub use sheet::Sheet;
+pub use size::Size;

@@ -1,5 +1,13 @@
 ghost use Rattle.std.specs.Prelude.{◌≡◌};
-ghost use Rattle.sheets.specs.Refusals.{number_of};
+ghost use Rattle.sheets.specs.Refusals.{number_of, of_size};
+
+/// Which number of a size is out of range.
+#[derive(Clone, Copy, PartialEq, Eq, Debug)]
+pub enum SizeRefusal {
+    TasksOutOfRange,
+    ProcessorsOutOfRange,
+    FrameOutOfRange,
+}
 
 /// Which question of a call on a sheet failed.
 #[derive(Clone, Copy, PartialEq, Eq, Debug)]
@@ -12,6 +20,19 @@ pub enum SheetRefusal {
     TicksOutOfRange,
 }
 
+impl From<SizeRefusal> for SheetRefusal {
+    ghost from_gives = { λ refusal given. given ≡ of_size refusal };
+
+    fn from(refusal: SizeRefusal) -> SheetRefusal {
+        match refusal {
+            SizeRefusal::TasksOutOfRange => SheetRefusal::TasksOutOfRange,
+            SizeRefusal::ProcessorsOutOfRange => SheetRefusal::ProcessorsOutOfRange,
+            SizeRefusal::FrameOutOfRange => SheetRefusal::FrameOutOfRange,
+        }
+    }
+}
+
+// A method and no cast: a contract cannot read an enum's `as u8`.
 impl SheetRefusal {
     /// The number that a refusal is known by.
     pub fn number(self) -> u8

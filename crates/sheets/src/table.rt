@@ -1,6 +1,6 @@
 // The ticks of each pair, in 64 lines of 16.
-ghost use Rattle.std.specs.Prelude.{◌≡◌, ℕ, ◌<◌, length, slice_set};
-ghost use Rattle.sheets.specs.Cells.{cell, written, no_line, no_lines};
+ghost use Rattle.std.specs.Prelude.{◌≡◌, ◌<◌};
+ghost use Rattle.sheets.specs.Cells.{cell, nothing, written, cleared};
 ghost use Rattle.sheets.specs.Tables.{tick_at};
 
 #[derive(Clone, Copy)]
@@ -9,8 +9,8 @@ pub(crate) struct Table {
 }
 
 impl Table {
-    pub(crate) fn empty() -> Table
-        ensures { result.ticks ≡ no_lines }
+    pub(crate) fn blank() -> Table
+        ensures { tick_at result ≡ nothing }
     {
         Table {
             ticks: [[0; 16]; 64],
@@ -30,22 +30,22 @@ impl Table {
         requires processor_bound { processor < 16 }
         ensures { tick_at self.new ≡ written (tick_at self.old) task processor ticks }
     {
+        // The line is borrowed by itself: that tells the proof how long it is.
         let line = &mut self.ticks[task];
         line[processor] = ticks;
     }
 
     pub(crate) fn clear_line(&mut self, task: usize)
         requires { task < 64 }
-        ensures line { self.new.ticks ≡ slice_set self.old.ticks task no_line }
-        ensures tall { length self.old.ticks ≡ 64 }
+        ensures { tick_at self.new ≡ cleared (tick_at self.old) task }
     {
         self.ticks[task] = [0; 16];
     }
 
     pub(crate) fn clear(&mut self)
-        ensures { self.new.ticks ≡ no_lines }
+        ensures { tick_at self.new ≡ nothing }
     {
-        self.ticks = [[0; 16]; 64];
+        *self = Table::blank();
     }
 
     pub(crate) fn lines(&self) -> [[u32; 16]; 64]

@@ -1,31 +1,34 @@
 -- One slot after another.
-use Rattle.std.proofs.Common.{◌≡◌, ℕ, ◌+◌, ◌*◌, ◌<◌, ◌≤◌, Bool, true, false, leb, List, length, drop, Ok, Err, sym, refl, ap, ◌∙◌, arith}
-use Rattle.std.proofs.lemmas.List.{at_drop_more, at_drop_all}
+use Rattle.std.proofs.Common.{◌≡◌, ℕ, ◌+◌, ◌*◌, ◌<◌, ◌≤◌, Bool, true, false, leb, List, length, drop, Ok, Err, sym, refl, ◌∙◌, arith}
+use Rattle.std.proofs.lemmas.List.{at_drop_more}
 use Rattle.std.proofs.lemmas.Bool.{leb-true, and_parts}
 use Rattle.builder.specs.declared.slots.Slot.{Slot}
-use Rattle.sheets.specs.Calls.{from_to}
-use Rattle.templates.specs.Calls.{Answer, asked, slot_answer, each_answer, sum_answer, slots_answer}
+use Rattle.sheets.specs.Questions.{from_to, asked}
+use Rattle.templates.specs.Calls.{Answer, slot_answer, each_answer, sum_answer, slots_answer}
 use Rattle.templates.specs.Layouts.{total, no_slot, slot_at}
 use Rattle.templates.specs.Rows.{row_fits}
 use Rattle.templates.specs.declared.refusals.TemplateRefusal.{TemplateRefusal}
 use Rattle.templates.specs.declared.refusals.TemplateRefusal.TheVariants.{SlotTicksOutOfRange, SlotPairsWrong}
 
--- an answer of two questions, whatever comes next
-two_pass : (a b : Bool) (e f : TemplateRefusal) (u : Unit {0}) (next : Answer) → asked a e (asked b f (Ok tt)) ≡ Ok u → asked a e (asked b f next) ≡ next
-two_pass true true e f u next h = refl
-two_pass true false e f u next h = let z : ◌≡◌ {A = ℕ} 0 1 = cc in absurd (omega arith)
-two_pass false true e f u next h = let z : ◌≡◌ {A = ℕ} 0 1 = cc in absurd (omega arith)
-two_pass false false e f u next h = let z : ◌≡◌ {A = ℕ} 0 1 = cc in absurd (omega arith)
+abbrev passed : Answer
+passed = Ok tt
 
-two_fail : (a b : Bool) (e f g : TemplateRefusal) (next : Answer) → asked a e (asked b f (Ok tt)) ≡ Err g → asked a e (asked b f next) ≡ Err g
-two_fail true true e f g next h = let z : ◌≡◌ {A = ℕ} 0 1 = cc in absurd (omega arith)
+-- an answer of two questions, whatever comes next
+two_pass : (a b : Bool) (e f : TemplateRefusal) (u : Unit {0}) (next : Answer) → asked a e (asked b f passed) ≡ Ok u → asked a e (asked b f next) ≡ next
+two_pass true true e f u next h = refl
+two_pass true false e f u next h = absurd (cc)
+two_pass false true e f u next h = absurd (cc)
+two_pass false false e f u next h = absurd (cc)
+
+two_fail : (a b : Bool) (e f g : TemplateRefusal) (next : Answer) → asked a e (asked b f passed) ≡ Err g → asked a e (asked b f next) ≡ Err g
+two_fail true true e f g next h = absurd (cc)
 two_fail true false e f g next h = h
 two_fail false true e f g next h = h
 two_fail false false e f g next h = h
 
-two_first : (a b : Bool) (e f : TemplateRefusal) (u : Unit {0}) → asked a e (asked b f (Ok tt)) ≡ Ok u → a ≡ true
+two_first : (a b : Bool) (e f : TemplateRefusal) (u : Unit {0}) → asked a e (asked b f passed) ≡ Ok u → a ≡ true
 two_first true b e f u h = refl
-two_first false b e f u h = let z : ◌≡◌ {A = ℕ} 0 1 = cc in absurd (omega arith)
+two_first false b e f u h = absurd (cc)
 
 module _ (n m l : ℕ) (s : Slot) where
   slot_passes : (u : Unit {0}) (next : Answer) → slot_answer n m l s (Ok tt) ≡ Ok u → slot_answer n m l s next ≡ next
@@ -45,9 +48,6 @@ pub record Passed (n m l : ℕ) (slots : List Slot) (sum i : ℕ) : Type 0 where
   pub light : sum ≤ i * 4294967296
   pub rest : each_answer n m l (drop i slots) (sum_answer l (total slots)) ≡ slots_answer n m l slots
 
-pub passed_none : (n m l : ℕ) (slots : List Slot) → Passed n m l slots 0 0
-passed_none n m l slots = record { adds = omega arith; light = omega arith; rest = refl }
-
 module _ {n m l : ℕ} {slots : List Slot} {sum i : ℕ} (w : Passed n m l slots sum i) where
   module _ (inside : i < length slots) where
     ahead : slot_answer n m l (slot_at slots i) (each_answer n m l (drop (i + 1) slots) (sum_answer l (total slots))) ≡ slots_answer n m l slots
@@ -63,11 +63,3 @@ module _ {n m l : ℕ} {slots : List Slot} {sum i : ℕ} (w : Passed n m l slots
 
     pub passed_fails : (g : TemplateRefusal) → Err g ≡ slot_answer n m l (slot_at slots i) (Ok tt) → Err g ≡ slots_answer n m l slots
     passed_fails g bad = sym (slot_fails n m l (slot_at slots i) g _ (sym bad)) ∙ ahead
-
-  module _ (all : length slots ≤ i) where
-    pub passed_all : sum_answer l sum ≡ slots_answer n m l slots
-    passed_all =
-        let t : total (drop i slots) ≡ 0 = at_drop_all total slots i all in
-        let a = w.adds in
-        let same : sum ≡ total slots = omega arith in
-        ap (sum_answer l) same ∙ sym (at_drop_all (λ (xs : List Slot). each_answer n m l xs (sum_answer l (total slots))) slots i all) ∙ w.rest

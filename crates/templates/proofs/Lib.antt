@@ -1,3 +1,3 @@
-pub mod Seeing
+pub mod Fitting
 pub mod Asking
 pub mod Soundness

@@ -1,26 +1,23 @@
 -- What passes every question is sound, and what is sound passes every question.
-use Rattle.std.proofs.Common.{◌≡◌, ℕ, ◌<◌, ◌≤◌, Bool, true, false, not, ◌&&◌, eqb, ltb, leb, List, [], ◌∷◌, length, Some, None, Ok, Option, sym, refl, ap, ◌∙◌, subst, ⊎_elim, arith}
+use Rattle.std.proofs.Common.{◌≡◌, ℕ, ◌<◌, ◌≤◌, Bool, true, false, eqb, leb, List, [], ◌∷◌, length, Ok, sym, refl, ap, ◌∙◌, subst, ⊎_elim}
 use Rattle.std.proofs.ByRecursion.{All-get_or, All-from_get_or}
 use Rattle.std.proofs.lemmas.List.{get_or_past}
-use Rattle.std.proofs.lemmas.Bool.{cases_lt, cases_order, cases_Bool, and_parts, and_from, leb-true, le-leb, lt-ltb, ltb-true, eqb-true, eq-eqb, both_ways, not-true}
-use Rattle.std.proofs.lemmas.Bool.Decides.{Decides-below_and}
+use Rattle.std.proofs.lemmas.Bool.{cases_lt, and_parts, and_from, leb-true, le-leb, eqb-true, eq-eqb}
 use Rattle.std.specs.List.{AllByRecursion as All}
 use Rattle.builder.specs.declared.slots.Slot.{Slot}
-use Rattle.counting.proofs.Counts.{any_from, any_to}
-use Rattle.graphs.specs.Graphs.{Row, at}
-use Rattle.sheets.specs.Calls.{from_to, most}
-use Rattle.templates.specs.Calls.{Answer, asked, each_answer, slots_answer, adopt_answer}
+use Rattle.sheets.specs.Questions.{from_to, most, asked}
+use Rattle.templates.specs.Calls.{Answer, each_answer, slots_answer, adopt_answer}
 use Rattle.templates.specs.Laws.{AdoptsTheSound}
 use Rattle.templates.specs.Layouts.{laid, blank, idle_slot, no_slot, slot_at, total, Sound}
-use Rattle.templates.specs.Rows.{all_below, names, taken, entry_fits, row_fits}
+use Rattle.templates.specs.Rows.{row_fits}
 use Rattle.templates.specs.declared.refusals.TemplateRefusal.{TemplateRefusal}
 use Rattle.templates.specs.declared.refusals.TemplateRefusal.TheVariants.{TasksOutOfRange, ProcessorsOutOfRange, FrameOutOfRange, TooManySlots, SlotTicksOutOfRange, SlotPairsWrong, SlotsDoNotAddUp}
-use Rattle.templates.proofs.Seeing.{fits_at, all_three}
+use Rattle.templates.proofs.Fitting.{RowSound, row_sound, row_from}
 
 -- a question
 passes : (b : Bool) (e : TemplateRefusal) (next : Answer) → asked b e next ≡ Ok tt → (b ≡ true) × (next ≡ Ok tt)
 passes true e next h = (refl, h)
-passes false e next h = let z : ◌≡◌ {A = ℕ} 0 1 = cc in absurd (omega arith)
+passes false e next h = absurd (cc)
 
 asks : (b : Bool) (e : TemplateRefusal) (next : Answer) → b ≡ true → asked b e next ≡ next
 asks b e next h = ap (λ v. asked v e next) h
@@ -32,67 +29,6 @@ within low high n h =
 
 from_within : (low high n : ℕ) → low ≤ n → n ≤ high → from_to low high n ≡ true
 from_within low high n a b = and_from _ _ (le-leb low n a) (le-leb n high b)
-
--- a row
-all_yes : (k : ℕ) (test : ℕ → Bool) → all_below k test ≡ true → (i : ℕ) → i < k → test i ≡ true
-all_yes k test h = (Decides-below_and test (λ i. test i ≡ true) (λ j. all_below j test) (λ i. (λ e. e, λ e. e)) refl (λ _. refl) k).0 h
-
-all_from : (k : ℕ) (test : ℕ → Bool) → ((i : ℕ) → i < k → test i ≡ true) → all_below k test ≡ true
-all_from k test h = (Decides-below_and test (λ i. test i ≡ true) (λ j. all_below j test) (λ i. (λ e. e, λ e. e)) refl (λ _. refl) k).1 h
-
-record RowSound (n m : ℕ) (row : Row) : Type 0 where
-  named : (p t : ℕ) → at row p ≡ Some t → (t < n) × (p < m)
-  apart : (p q t : ℕ) → at row p ≡ Some t → at row q ≡ Some t → p ≡ q
-
-named_from : (o : Option ℕ) (t : ℕ) → names o t ≡ true → o ≡ Some t
-named_from None t h = let z : ◌≡◌ {A = ℕ} 0 1 = cc in absurd (omega arith)
-named_from (Some a) t h = ap Some (eqb-true a t h)
-
-module _ (n m : ℕ) (row : Row) where
-  inside : (p t : ℕ) → at row p ≡ Some t → p < length row
-  inside p t h =
-      ⊎_elim (λ l. l)
-      (λ l. let out : at row p ≡ None = get_or_past row p None l in
-      let z : ◌≡◌ {A = ℕ} 0 1 = cc in absurd (omega arith))
-      (cases_lt p (length row))
-
-  has : (p q t : ℕ) → p < q → at row p ≡ Some t → taken row q t ≡ true
-  has p q t l h = any_from q (λ i. names (at row i) t) p l (ap (λ o. names o t) h ∙ eq-eqb t t refl)
-
-  module _ (fits : row_fits n m row ≡ true) where
-    entry : (p t : ℕ) → at row p ≡ Some t → (ltb p m && ltb t n && not (taken row p t)) ≡ true
-    entry p t h = sym (ap (entry_fits n m row p) h) ∙ all_yes (length row) (fits_at n m row) fits p (inside p t h)
-
-    parts : (p t : ℕ) → at row p ≡ Some t → (p < m) × (t < n) × (taken row p t ≡ false)
-    parts p t h =
-        let e = and_parts (ltb p m && ltb t n) (not (taken row p t)) (entry p t h) in
-        let f = and_parts (ltb p m) (ltb t n) e.0 in
-        (ltb-true p m f.0, ltb-true t n f.1, not-true (taken row p t) e.1)
-
-    row_sound : RowSound n m row
-    row_sound = record {
-      named = λ p t h. ((parts p t h).1, (parts p t h).0);
-      apart = λ p q t h k. ⊎_elim (λ e. e)
-          (λ o. ⊎_elim (λ l. absurd (both_ways (taken row q t) (parts q t k).2 (has p q t l h)))
-          (λ l. absurd (both_ways (taken row p t) (parts p t h).2 (has q p t l k))) o)
-          (cases_order p q);
-    }
-
-  module _ (sound : RowSound n m row) where
-    new : (p t : ℕ) → at row p ≡ Some t → taken row p t ≡ false
-    new p t h =
-        ⊎_elim
-        (λ e. let (q, l, o) = any_to p (λ i. names (at row i) t) e in
-        let z : q ≡ p = sound.apart q p t (named_from (at row q) t o) h in absurd (omega arith))
-        (λ e. e) (cases_Bool (taken row p t))
-
-    entry_from : (p : ℕ) (o : Option ℕ) → at row p ≡ o → entry_fits n m row p o ≡ true
-    entry_from p None h = refl
-    entry_from p (Some t) h =
-        all_three (ltb p m) (ltb t n) (taken row p t) (lt-ltb p m (sound.named p t h).1) (lt-ltb t n (sound.named p t h).0) (new p t h)
-
-    row_from : row_fits n m row ≡ true
-    row_from = all_from (length row) (fits_at n m row) (λ p _. entry_from p (at row p) refl)
 
 -- the slots, in order
 module _ (n m l : ℕ) where

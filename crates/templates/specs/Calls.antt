@@ -1,7 +1,7 @@
 -- What adopting answers, and the layout that it leaves: the first question that fails refuses it, and a refusal changes nothing.
-use Rattle.std.specs.Prelude.{ℕ, Bool, cond, List, [], ◌∷◌, length, Ok, Err, Result, ◌==◌, nat_le}
+use Rattle.std.specs.Prelude.{ℕ, List, [], ◌∷◌, length, Ok, Err, Result, ◌==◌, nat_le}
 use Rattle.builder.specs.declared.slots.Slot.{Slot}
-use Rattle.sheets.specs.Calls.{from_to, most}
+use Rattle.sheets.specs.Questions.{most, from_to, asked}
 use Rattle.templates.specs.Layouts.{Layout, laid, total}
 use Rattle.templates.specs.Rows.{row_fits}
 use Rattle.templates.specs.declared.refusals.TemplateRefusal.{TemplateRefusal}
@@ -9,10 +9,6 @@ use Rattle.templates.specs.declared.refusals.TemplateRefusal.TheVariants.{TasksO
 
 abbrev pub Answer : Type 0
 Answer = Result (Unit {0}) TemplateRefusal
-
--- a question, and what to answer where it fails
-abbrev pub asked : Bool → TemplateRefusal → Answer → Answer
-asked holds refusal next = cond holds next (Err refusal)
 
 abbrev pub slot_answer : ℕ → ℕ → ℕ → Slot → Answer → Answer
 slot_answer n m l s next =

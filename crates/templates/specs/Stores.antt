@@ -4,4 +4,4 @@ use Rattle.builder.specs.declared.slots.Slot.{Slot}
 use Rattle.templates.specs.declared.store.Store.{Store}
 
 abbrev pub held : Store → List Slot
-held s = take s.count s.slots
+held s = take s.count s.room.slots

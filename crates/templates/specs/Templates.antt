@@ -4,4 +4,4 @@ use Rattle.templates.specs.Stores.{held}
 use Rattle.templates.specs.declared.template.Template.{Template}
 
 abbrev pub layout_of : Template → Layout
-layout_of t = laid t.tasks t.processors t.frame (held t.store)
+layout_of t = laid t.size.tasks t.size.processors t.size.frame (held t.store)

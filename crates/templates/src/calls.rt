@@ -9,9 +9,7 @@ use crate::refusals::TemplateRefusal;
 use crate::store::{ROOM, Store};
 use crate::template::Template;
 use builder::Slot;
-
-// The longest frame.
-const MOST: u32 = 1_000_000_000;
+use sheets::Size;
 
 impl Template {
     /// One task, one processor, a frame of one tick, in which the processor is idle.
@@ -19,9 +17,11 @@ impl Template {
         ensures { layout_of result ≡ blank }
     {
         Template {
-            tasks: 1,
-            processors: 1,
-            frame: 1,
+            size: Size {
+                tasks: 1,
+                processors: 1,
+                frame: 1,
+            },
             store: Store::idle(),
         }
     }
@@ -37,23 +37,13 @@ impl Template {
         ensures answer { result ≡ adopt_answer tasks processors frame slots.now }
         ensures state { layout_of self.new ≡ after_adopt (layout_of self.old) tasks processors frame slots.now }
     {
-        let 1..=64 = tasks else {
-            return Err(TemplateRefusal::TasksOutOfRange);
-        };
-        let 1..=16 = processors else {
-            return Err(TemplateRefusal::ProcessorsOutOfRange);
-        };
-        let 1..=MOST = frame else {
-            return Err(TemplateRefusal::FrameOutOfRange);
-        };
-        let 0..=ROOM = slots.len() else {
+        let size = Size::new(tasks, processors, frame)?;
+        if slots.len() > ROOM {
             return Err(TemplateRefusal::TooManySlots);
-        };
-        slots_asked(slots, tasks, processors, frame)?;
+        }
+        slots_asked(slots, size)?;
+        self.size = size;
         self.store.replace(slots);
-        self.tasks = tasks;
-        self.processors = processors;
-        self.frame = frame;
         Ok(())
     }
 }

@@ -1,66 +1,53 @@
 // What each slot is asked.
-ghost use Rattle.std.specs.Prelude.{◌≡◌, ◌≤◌, length, Ok};
+ghost use Rattle.std.specs.Prelude.{◌≡◌, ◌≤◌, ◌↔◌, IsTrue, length, Ok};
 ghost use Rattle.templates.specs.Calls.{slot_answer, slots_answer};
-ghost use Rattle.templates.specs.Rows.{row_fits};
+ghost use Rattle.templates.specs.Rows.{row_fits, IdleFrom};
 
 use crate::refusals::TemplateRefusal;
 use builder::Slot;
+use graphs::no_entry_twice;
+use sheets::Size;
+
+// Whether every processor from this one on is idle.
+fn idle_from(row: &[Option<u8>], processor: usize) -> bool
+    ensures { IsTrue result ↔ IdleFrom processor row.now }
+{
+    row.iter().skip(processor).all(|task| task.is_none())
+}
 
 // Whether a row names only tasks and processors of the template, and no task twice.
-fn row_fits(row: &[Option<u8>; 16], tasks: usize, processors: usize) -> bool
-    requires { tasks ≤ 64 }
-    ensures { result ≡ row_fits tasks processors row.now }
+#[tactic(auto, using(crate::proofs::Fitting::fits_when))]
+fn row_fits(row: &[Option<u8>], size: Size) -> bool
+    ensures { result ≡ row_fits size.tasks size.processors row.now }
 {
-    let mut seen = [false; 64];
-    for processor in 0..16 {
-        if let Some(task) = row[processor] {
-            let task = task as usize;
-            if processor >= processors || task >= tasks || seen[task] {
-                return false;
-            }
-            seen[task] = true;
-        }
-    }
-    true
+    // One equation with `&`, where `&&` parts the proof into two branches that the check leaves open.
+    no_entry_twice(row, size.tasks) & idle_from(row, size.processors)
 }
 
 // Asks one slot for its ticks, then for its pairs.
-fn slot_asked(
-    slot: &Slot,
-    tasks: usize,
-    processors: usize,
-    frame: u32,
-) -> Result<(), TemplateRefusal>
-    requires { tasks ≤ 64 }
-    ensures { result ≡ slot_answer tasks processors frame slot.now (Ok tt) }
+fn slot_asked(slot: &Slot, size: Size) -> Result<(), TemplateRefusal>
+    ensures { result ≡ slot_answer size.tasks size.processors size.frame slot.now (Ok tt) }
 {
-    if slot.ticks == 0 || slot.ticks > frame {
+    if slot.ticks == 0 || slot.ticks > size.frame {
         return Err(TemplateRefusal::SlotTicksOutOfRange);
     }
-    if row_fits(&slot.row, tasks, processors) {
-        Ok(())
-    } else {
-        Err(TemplateRefusal::SlotPairsWrong)
+    if !row_fits(&slot.row, size) {
+        return Err(TemplateRefusal::SlotPairsWrong);
     }
+    Ok(())
 }
 
 // Asks each slot in order, then whether they add up to the frame.
-pub(crate) fn slots_asked(
-    slots: &[Slot],
-    tasks: usize,
-    processors: usize,
-    frame: u32,
-) -> Result<(), TemplateRefusal>
-    requires tasked { tasks ≤ 64 }
-    requires few { length slots.now ≤ 1104 }
-    ensures { result ≡ slots_answer tasks processors frame slots.now }
+pub(crate) fn slots_asked(slots: &[Slot], size: Size) -> Result<(), TemplateRefusal>
+    requires { length slots.now ≤ 1104 }
+    ensures { result ≡ slots_answer size.tasks size.processors size.frame slots.now }
 {
     let mut sum: u64 = 0;
     for slot in slots {
-        slot_asked(slot, tasks, processors, frame)?;
-        sum += slot.ticks as u64;
+        slot_asked(slot, size)?;
+        sum += u64::from(slot.ticks);
     }
-    if sum == frame as u64 {
+    if sum == u64::from(size.frame) {
         Ok(())
     } else {
         Err(TemplateRefusal::SlotsDoNotAddUp)

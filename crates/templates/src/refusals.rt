@@ -1,5 +1,7 @@
 ghost use Rattle.std.specs.Prelude.{◌≡◌};
-ghost use Rattle.templates.specs.Refusals.{number_of};
+ghost use Rattle.templates.specs.Refusals.{number_of, of_size};
+
+use sheets::SizeRefusal;
 
 /// Which question failed when a template was to adopt a list of slots.
 #[derive(Clone, Copy, PartialEq, Eq, Debug)]
@@ -13,6 +15,19 @@ pub enum TemplateRefusal {
     SlotsDoNotAddUp,
 }
 
+impl From<SizeRefusal> for TemplateRefusal {
+    ghost from_gives = { λ refusal given. given ≡ of_size refusal };
+
+    fn from(refusal: SizeRefusal) -> TemplateRefusal {
+        match refusal {
+            SizeRefusal::TasksOutOfRange => TemplateRefusal::TasksOutOfRange,
+            SizeRefusal::ProcessorsOutOfRange => TemplateRefusal::ProcessorsOutOfRange,
+            SizeRefusal::FrameOutOfRange => TemplateRefusal::FrameOutOfRange,
+        }
+    }
+}
+
+// A method and no cast: a contract cannot read an enum's `as u8`.
 impl TemplateRefusal {
     /// The number that a refusal is known by.
     pub fn number(self) -> u8

@@ -1,30 +1,52 @@
-// Room for 1,104 slots, of which the first `count` are in use.
-ghost use Rattle.std.specs.Prelude.{◌≡◌, ◌≤◌, [], ◌∷◌, length};
-ghost use Rattle.templates.specs.Layouts.{idle_slot};
-ghost use Rattle.templates.specs.Stores.{held};
+// Room for 1,104 slots, of which the first `count` are in use. A template is `Copy`, which a growing list of the kit is not.
+ghost use Rattle.std.specs.Prelude.{◌≤◌};
 
 use builder::Slot;
 
 pub(crate) const ROOM: usize = 1_104;
 
+// The table alone: a part of it can be lent, which beside a ghost field the borrow checker does not cover.
+#[derive(Clone, Copy)]
+struct Room {
+    slots: [Slot; ROOM],
+}
+
 #[derive(Clone, Copy)]
 pub(crate) struct Store {
-    slots: [Slot; ROOM],
+    room: Room,
     count: usize,
+    ghost few: { count ≤ 1104 },
+}
+
+impl Room {
+    ghost use Rattle.std.specs.Prelude.{◌≡◌, length, take};
+
+    // Writes these slots to the front.
+    fn write(&mut self, slots: &[Slot])
+        requires { length slots.now ≤ 1104 }
+        ensures { take (length slots.now) self.new.slots ≡ slots.now }
+    {
+        self.slots[..slots.len()].copy_from_slice(slots);
+    }
 }
 
 impl Store {
+    ghost use Rattle.std.specs.Prelude.{◌≡◌, [], ◌∷◌, length};
+    ghost use Rattle.templates.specs.Layouts.{idle_slot};
+    ghost use Rattle.templates.specs.Stores.{held};
+
     // One idle slot of one tick.
     pub(crate) fn idle() -> Store
-        ensures few { result.count ≤ 1104 }
-        ensures holds { held result ≡ idle_slot 1 ∷ [] }
+        ensures { held result ≡ idle_slot 1 ∷ [] }
     {
         let idle = Slot {
             ticks: 1,
             row: [None; 16],
         };
         Store {
-            slots: [idle; ROOM],
+            room: Room {
+                slots: [idle; ROOM],
+            },
             count: 1,
         }
     }
@@ -32,18 +54,16 @@ impl Store {
     // Takes these slots in place of the ones before.
     pub(crate) fn replace(&mut self, slots: &[Slot])
         requires { length slots.now ≤ 1104 }
-        ensures few { self.new.count ≤ 1104 }
-        ensures holds { held self.new ≡ slots.now }
+        ensures { held self.new ≡ slots.now }
     {
         self.count = slots.len();
-        self.slots[0..slots.len()].copy_from_slice(slots);
+        self.room.write(slots);
     }
 
     // The slots in use.
     pub(crate) fn all(&self) -> &[Slot]
-        requires { self.now.count ≤ 1104 }
         ensures { result.now ≡ held self.now }
     {
-        &self.slots[0..self.count]
+        &self.room.slots[..self.count]
     }
 }

@@ -4,27 +4,35 @@ ghost use Rattle.templates.specs.Templates.{layout_of};
 
 use crate::template::Template;
 use builder::Slot;
+use sheets::Size;
 
 impl Template {
+    /// How many tasks and processors its slots may name, and the ticks of all slots together.
+    pub fn size(&self) -> Size
+        ensures { result ≡ self.now.size }
+    {
+        self.size
+    }
+
     /// How many tasks its slots may name.
     pub fn tasks(&self) -> usize
         ensures { result ≡ (layout_of self.now).tasks }
     {
-        self.tasks
+        self.size.tasks
     }
 
     /// How many processors its slots may name.
     pub fn processors(&self) -> usize
         ensures { result ≡ (layout_of self.now).processors }
     {
-        self.processors
+        self.size.processors
     }
 
     /// The ticks of all slots together.
     pub fn frame(&self) -> u32
         ensures { result ≡ (layout_of self.now).frame }
     {
-        self.frame
+        self.size.frame
     }
 
     /// The slots, in the order of the frame.

@@ -1,5 +1,4 @@
-use Rattle.std.proofs.Common.{◌<◌, arith}
-use Rattle.std.proofs.lemmas.Bool.Decides.{nat_tests}
+use Rattle.std.proofs.Common.{◌<◌, rules, arith}
 use Rattle.sheets.specs.Tables.{tick_at}
 use Rattle.sheets.proofs.Lines.{light_at, zero_at, written_light, written_below, written_beside}
 use Rattle.sheets.proofs.sheet.Sheet.set.Goals as goal
@@ -10,15 +9,10 @@ invariant_of-self c =
     let s = c.args.self.now in
     let f = tick_at s.table in
     let e = c.put.ensures in
-    let asked_task = c.in-Some.ensures in
-    let asked_processor = c.in-Some-below.ensures in
-    let task_low : c.in-Some.task < c.args.self.now.tasks = grind (arith, nat_tests) in
-    let processor_low : c.in-Some-below.processor < c.args.self.now.processors = grind (arith, nat_tests) in
+    let task_low : c.in_ok-task.task < s.size.tasks = search rules in
+    let processor_low : c.in_ok-processor.processor < s.size.processors = search rules in
     record {
-      tasked = s.tasked;
-      manned = s.manned;
-      framed = s.framed;
       light = light_at e (written_light f _ _ _ (omega arith) s.light);
-      below = λ a b h. zero_at e a b (written_below f _ _ _ s.tasks task_low s.below a b h);
-      beside = λ a b h. zero_at e a b (written_beside f _ _ _ s.processors processor_low s.beside a b h);
+      below = λ a b h. zero_at e a b (written_below f _ _ _ s.size.tasks task_low s.below a b h);
+      beside = λ a b h. zero_at e a b (written_beside f _ _ _ s.size.processors processor_low s.beside a b h);
     }

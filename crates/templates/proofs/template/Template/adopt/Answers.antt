@@ -4,6 +4,6 @@ use Rattle.templates.proofs.template.Template.adopt.Goals as goal
 
 pub invariant_of-self : goal.invariant_of-self
 invariant_of-self c =
+    let size = c.in_ok-size.size in
     let short : length c.args.slots.now ≤ 1104 = omega arith in
-    let sound = adopted_sound _ _ _ _ (omega arith) (omega arith) (omega arith) (omega arith) (omega arith) (omega arith) short c.in_ok-slots_asked.ensures c.replace.ensures.holds in
-    record { few = c.replace.ensures.few; sound = ∣ sound ∣₁ }
+    record { sound = ∣ adopted_sound _ _ _ _ size.tasked.0 size.tasked.1 size.manned.0 size.manned.1 size.framed.0 size.framed.1 short c.in_ok-slots_asked.ensures c.replace.ensures ∣₁ }

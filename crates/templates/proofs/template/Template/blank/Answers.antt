@@ -3,5 +3,5 @@ use Rattle.templates.specs.Layouts.{laid, Sound}
 use Rattle.templates.proofs.Soundness.{blank_sound}
 use Rattle.templates.proofs.template.Template.blank.Goals as goal
 
-pub invariant_of-result : goal.invariant_of-result
-invariant_of-result c = record { few = c.idle.ensures.few; sound = ∣ subst (λ slots. Sound (laid 1 1 1 slots)) (sym c.idle.ensures.holds) blank_sound ∣₁ }
+pub invariant_of-result-2 : goal.invariant_of-result-2
+invariant_of-result-2 c = record { sound = ∣ subst (λ slots. Sound (laid 1 1 1 slots)) (sym c.idle.ensures) blank_sound ∣₁ }

@@ -1,8 +1,0 @@
-use Rattle.std.proofs.Common.{length, ap, ◌∙◌}
-use Rattle.std.proofs.lemmas.List.{take_at}
-use Rattle.templates.proofs.store.Store.replace.Goals as goal
-
-pub returns : goal.returns
-returns c =
-    let copied = c.copy_from_slice.ensures.after in
-    record { few = c.requires; holds = take_at _ _ _ (ap length copied) ∙ copied }
