@@ -1,4 +1,5 @@
 pub mod Rows
+pub mod Making
 pub mod Flags
 pub mod Seeing
 pub mod Flipping

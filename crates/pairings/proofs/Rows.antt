@@ -1,10 +1,18 @@
--- A row after an entry is filled, and a row of nobody.
-use Rattle.std.proofs.Common.{◌≡◌, ℕ, zero, suc, ◌<◌, ◌⊎◌, length, get_or, set, replicate, Some, None, Option, sym, refl, ap, ◌∙◌, inl, inr, ⊎_elim, arith, get_or-set_other, get_or-set_same}
+-- Tables of one value, and a row after an entry is filled.
+use Rattle.std.proofs.Common.{◌≡◌, ℕ, zero, suc, ◌<◌, ◌⊎◌, length, get_or, set, replicate, Some, None, Option, sym, refl, ◌∙◌, inl, inr, ⊎_elim, get_or-set_other, get_or-set_same}
 use Rattle.std.proofs.lemmas.Bool.{cases_eq}
 use Rattle.graphs.specs.Graphs.{Row, at}
 
+pub all_same : {A : Type 0} (n i : ℕ) (d : A) → get_or (replicate n d) i d ≡ d
+all_same zero i d = refl
+all_same (suc n) zero d = refl
+all_same (suc n) (suc i) d = all_same n i d
+
+pub blank : (n b : ℕ) → at (replicate n None) b ≡ None
+blank n b = all_same n b None
+
 pub clash : (o : Option ℕ) (a : ℕ) → o ≡ None → o ≡ Some a → ⊥
-clash o a p q = let z : ◌≡◌ {A = ℕ} 0 1 = cc in omega arith
+clash o a p q = cc
 
 pub one_value : (o : Option ℕ) (a e : ℕ) → o ≡ Some a → o ≡ Some e → a ≡ e
 one_value o a e p q = cc
@@ -18,11 +26,6 @@ module _ (owner : Row) (b : ℕ) (fits : b < length owner) (a : ℕ) where
 
   pub fill_from : (x e : ℕ) → at (set owner b (Some a)) x ≡ Some e → ((x ≡ b) × (e ≡ a)) ⊎ ((x ≡ b → ⊥) × (at owner x ≡ Some e))
   fill_from x e h = ⊎_elim
-      (λ q. inl (q, one_value (at (set owner b (Some a)) x) e a h (ap (at (set owner b (Some a))) q ∙ fill_here)))
+      (λ q. inl (q, cc (fill_here, h, q)))
       (λ ne. inr (ne, sym (fill_else x ne) ∙ h))
       (cases_eq x b)
-
-pub blank : (n b : ℕ) → ◌≡◌ {A = Option ℕ} (get_or (replicate n None) b None) None
-blank zero b = refl
-blank (suc n) zero = refl
-blank (suc n) (suc b) = blank n b

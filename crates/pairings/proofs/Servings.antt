@@ -38,14 +38,6 @@ module _ (g : Shape) (urgent full : ℕ → Bool) (f : ℕ → Option ℕ) (s : 
       enough : count_below g.seconds members ≤ count_below g.firsts (neighbour (turned g) members)
       enough = count_inject (λ p t. f p ≡ Some t) g.seconds g.firsts members (neighbour (turned g) members) partner (λ p q t. s.apart p q t)
 
-  pub serving_other : (urgent' full' : ℕ → Bool) → ((k : ℕ) → urgent k ≡ urgent' k) → ((k : ℕ) → full k ≡ full' k) → Serving g urgent' full' f
-  serving_other urgent' full' u v = record {
-    edges = s.edges;
-    apart = s.apart;
-    tasks = λ t l e. s.tasks t l (u t ∙ e);
-    processors = λ p l e. s.processors p l (v p ∙ e);
-  }
-
 pub cover_serving : (g : Shape) (marks : Marking) (row : Row) → Cover g marks row → Serving g marks.urgent marks.full (at row)
 cover_serving g marks row c = record {
   edges = λ p t h. let (a, b, e) = c.edges p t h in (a, b, from_T (g.joined t p) e);

@@ -22,9 +22,9 @@ differs Task (Some Processor) = true
 differs Processor (Some Task) = true
 differs Processor (Some Processor) = false
 
--- how many processors have another side
-abbrev pub others : Side → Sides → ℕ
-others s sides = count_below 64 (λ p. differs s (side_at sides p))
+-- how many of n processors have another side
+abbrev pub others : ℕ → Side → Sides → ℕ
+others n s sides = count_below n (λ p. differs s (side_at sides p))
 
 -- the entry that is kept
 abbrev pub kept : Option Side → Option ℕ → Option ℕ → Option ℕ
@@ -32,27 +32,27 @@ kept None task own = task
 kept (Some Task) task own = task
 kept (Some Processor) task own = own
 
--- the processors' matching by processor and the tasks' by task: no two with one partner
-pub record Joint (own holder : Row) : Type 0 where
+-- the processors' matching by processor and the tasks' by task: no two with one partner, tasks below m and processors below n
+pub record Joint (m n : ℕ) (own holder : Row) : Type 0 where
   pub apart_own : (p q t : ℕ) → at own p ≡ Some t → at own q ≡ Some t → p ≡ q
   pub apart_holder : (s t p : ℕ) → at holder s ≡ Some p → at holder t ≡ Some p → s ≡ t
-  pub near_task : (p t : ℕ) → at own p ≡ Some t → t < 64
-  pub near_holder : (t p : ℕ) → at holder t ≡ Some p → p < 64
+  pub near_task : (p t : ℕ) → at own p ≡ Some t → t < m
+  pub near_holder : (t p : ℕ) → at holder t ≡ Some p → p < n
 
 -- q is the next processor of the walk: an own edge leads from p to a task, and the task matching on to q
 abbrev pub Leads : Row → Row → ℕ → ℕ → Type 0
 Leads own holder p q = (t : ℕ) × (at own p ≡ Some t) × (at holder t ≡ Some q)
 
--- the processors that keep their own matching are closed under the union's edges
-pub record Shut (own holder : Row) (sides : Sides) : Type 0 where
-  pub wide : length sides ≡ 64
+-- of n processors, those that keep their own matching are closed under the union's edges
+pub record Shut (n : ℕ) (own holder : Row) (sides : Sides) : Type 0 where
+  pub wide : length sides ≡ n
   pub back : (q t : ℕ) → Own sides q → at holder t ≡ Some q → (r : ℕ) × (at own r ≡ Some t) × Own sides r
   pub on : (q r : ℕ) → Own sides q → Leads own holder q r → Own sides r
 
 -- the same, but for the way on from p, where the walk stands
-pub record Walked (own holder : Row) (sides : Sides) (s : Side) (p : ℕ) : Type 0 where
-  pub wide : length sides ≡ 64
-  pub near : p < 64
+pub record Walked (n : ℕ) (own holder : Row) (sides : Sides) (s : Side) (p : ℕ) : Type 0 where
+  pub wide : length sides ≡ n
+  pub near : p < n
   pub back : (q t : ℕ) → Own sides q → at holder t ≡ Some q → (r : ℕ) × (at own r ≡ Some t) × Own sides r
   pub on : (q r : ℕ) → Own sides q → (q ≢ p) → Leads own holder q r → Own sides r
   pub here : s ≡ Processor → Own sides p

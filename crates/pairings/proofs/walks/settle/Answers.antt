@@ -1,6 +1,0 @@
-use Rattle.std.proofs.Common.{arith}
-use Rattle.pairings.proofs.Settling.{shut_none}
-use Rattle.pairings.proofs.walks.settle.Goals as goal
-
-pub loop-p-init : goal.loop-p-init
-loop-p-init c = (shut_none _ _, λ p l. absurd (omega arith))
