@@ -1,10 +1,14 @@
--- The best of the tasks at hand, so far.
+-- The best of the tasks at hand, so far, and the answer of the first rule.
 use Rattle.std.proofs.Common.{◌≡◌, ℕ, ◌+◌, ◌<◌, Bool, true, false, ◌&&◌, T, ◌⊎◌, Some, None, Option, sym, ap, ◌∙◌, subst, inl, inr, ⊎_elim, arith, MatchOption}
 use Rattle.std.proofs.lemmas.Bool.{cases_eq, both_ways, and_from, and_parts}
 use Rattle.graphs.specs.Graphs.{Shape, Small, Row, at}
-use Rattle.graphs.proofs.Hall.{from_T, to_T}
+use Rattle.graphs.specs.Covers.{Marking}
+use Rattle.pairings.specs.Pairings.{Paired}
+use Rattle.pairings.specs.Rules.{Rule, Chooses}
+use Rattle.pairings.specs.declared.pairing.Pairing.{Pairing}
 use Rattle.preferences.specs.Preferences.{Order, Preferring}
 use Rattle.preferences.specs.Reach.{node, Best, Chosen}
+use Rattle.graphs.proofs.Hall.{from_T, to_T}
 
 module _ (order : Order) (had : Option ℕ) (g : Shape) (small : Small g) (holder : Row) (in' : ℕ → Bool) (p k : ℕ) where
   abbrev hand : ℕ → Bool
@@ -57,3 +61,8 @@ module _ (order : Order) (had : Option ℕ) (g : Shape) (small : Small g) (holde
         older (Some a) c is b l j i =
             let t : T (order p had k a) = to_T (order p had k a) (sym is ∙ e) in
             ⊎_elim (λ w. inr (subst (λ x. T (order p had k x)) w t)) (λ w. inr (prefers.through p had k a b t w)) (c.best b l j i)
+
+-- a row that has no task twice is never turned away
+pub chosen : (admits : Rule) (g : Shape) (marks : Marking) (before row : Row) (answer : Option Pairing) → Paired row → admits g marks before row → MatchOption answer (Paired row → ⊥) (λ q. q.row ≡ row) → Chooses admits g marks before answer
+chosen admits g marks before row None paired admitted m = absurd (m paired)
+chosen admits g marks before row (Some q) paired admitted m = subst (λ (r : Row). admits g marks before r) (sym m) admitted

@@ -1,7 +1,8 @@
 -- The row leads all covers so far.
 use Rattle.std.proofs.Common.{◌≡◌, ℕ, ◌+◌, ◌<◌, ◌≤◌, Bool, ◌⊎◌, length, Some, None, Option, sym, refl, ap, ◌∙◌, subst, inl, inr, ⊎_elim, arith}
 use Rattle.std.proofs.lemmas.Bool.{cases_eq, cases_lt}
-use Rattle.graphs.specs.Graphs.{Shape, Row, at}
+use Rattle.graphs.specs.Graphs.{Shape, Small, Row, at}
+use Rattle.pairings.specs.Pairings.{Paired}
 use Rattle.pairings.specs.Flips.{Flipped}
 use Rattle.graphs.specs.Covers.{Marking, Cover}
 use Rattle.pairings.specs.Servings.{Serving}
@@ -9,6 +10,12 @@ use Rattle.preferences.specs.Preferences.{Order, EntryBefore, First}
 use Rattle.pairings.proofs.Servings.{cover_serving, serving_cover, nobody, same_rows}
 use Rattle.preferences.specs.Reach.{node, Closed, Agrees, Leading, Led, Best, Chosen}
 use Rattle.preferences.proofs.Missing.{reached_task}
+
+pub serving_paired : (g : Shape) (marks : Marking) (row : Row) → Small g → Serving g marks.urgent marks.full (at row) → Paired row
+serving_paired g marks row few s = record {
+  small = λ p t o. omega (arith, (s.edges p t o).0, few.firsts_few);
+  apart = s.apart;
+}
 
 pub leading_none : (order : Order) (had : Row) (g : Shape) (marks : Marking) (row : Row) → Cover g marks row → Leading order had g marks row 0
 leading_none order had g marks row c = record {
@@ -47,7 +54,7 @@ leading_all order had g marks row p few all b = record {
       (b.first (at other) (cover_serving g marks other c));
 }
 
-module _ (order : Order) (had : Option ℕ) (g : Shape) (marks : Marking) (row holder : Row) (p : ℕ) (in' : ℕ → Bool) (wide : length row ≡ 16) (s : Serving g marks.urgent marks.full (at row)) (h : Flipped row holder) (c : Closed g marks row holder p in') (few : g.seconds ≤ 16) (inside : p < g.seconds) where
+module _ (order : Order) (had : Option ℕ) (g : Shape) (marks : Marking) (row holder : Row) (p : ℕ) (in' : ℕ → Bool) (wide : length row ≡ 16) (s : Serving g marks.urgent marks.full (at row)) (h : Flipped 64 row holder) (c : Closed g marks row holder p in') (few : g.seconds ≤ 16) (inside : p < g.seconds) where
   -- nothing can be given to p
   pub led_idle : Chosen order had g holder in' p g.firsts None → Led order had g marks row p row
   led_idle none = record {

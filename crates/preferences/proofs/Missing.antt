@@ -18,7 +18,7 @@ pub to_some : (o : Option ℕ) → some o ≡ true → (t : ℕ) × (o ≡ Some 
 to_some None e = absurd (both_ways false refl e)
 to_some (Some t) e = (t, refl)
 
-module _ (g : Shape) (marks : Marking) (row holder : Row) (p : ℕ) (in' : ℕ → Bool) (s : Serving g marks.urgent marks.full (at row)) (h : Flipped row holder) (c : Closed g marks row holder p in') (few : g.seconds ≤ 16) (inside : p < g.seconds) (f : ℕ → Option ℕ) (a : Agrees g marks row p f) (t : ℕ) (o : f p ≡ Some t) where
+module _ (g : Shape) (marks : Marking) (row holder : Row) (p : ℕ) (in' : ℕ → Bool) (s : Serving g marks.urgent marks.full (at row)) (h : Flipped 64 row holder) (c : Closed g marks row holder p in') (few : g.seconds ≤ 16) (inside : p < g.seconds) (f : ℕ → Option ℕ) (a : Agrees g marks row p f) (t : ℕ) (o : f p ≡ Some t) where
   abbrev lies : ℕ → Bool
   lies x = in' (node (at holder x))
 

@@ -1,5 +1,5 @@
 -- The row while a task moves to the start.
-use Rattle.std.proofs.Common.{◌≡◌, ℕ, ◌<◌, ◌≤◌, true, ◌⊎◌, List, length, get_or, set, Some, None, Option, sym, refl, ap, ◌∙◌, subst, inl, inr, ⊎_elim, arith, length-set, get_or-set_other, get_or-set_same}
+use Rattle.std.proofs.Common.{◌≡◌, ℕ, ◌<◌, ◌≤◌, true, ◌⊎◌, length, set, Some, None, Option, sym, refl, ap, ◌∙◌, subst, inl, inr, ⊎_elim, arith, length-set, get_or-set_other, get_or-set_same}
 use Rattle.std.proofs.lemmas.Bool.{cases_eq, cases_lt, both_ways}
 use Rattle.std.proofs.lemmas.List.{get_or_past}
 use Rattle.graphs.specs.Graphs.{Shape, Row, at}
@@ -7,8 +7,9 @@ use Rattle.graphs.specs.Covers.{Marking}
 use Rattle.pairings.specs.Servings.{Serving}
 use Rattle.pairings.proofs.Rows.{clash, one_value, fill_here, fill_else, fill_from}
 use Rattle.preferences.specs.declared.trails.Trail.{Trail}
+use Rattle.preferences.specs.declared.trails.Reach.{Reach}
 use Rattle.pairings.specs.Flips.{Flipped}
-use Rattle.preferences.specs.Reach.{node, stamp_of, via_of, by_of, Kind, Hop, Tree, Walk, Shifted}
+use Rattle.preferences.specs.Reach.{node, reach_at, reach_via, reach_by, depth_of, via_of, by_of, Kind, Hop, Tree, Walk, Shifted}
 
 past : (row : Row) → length row ≡ 16 → (x : ℕ) → 16 ≤ x → at row x ≡ None
 past row wide x l = get_or_past row x None (omega arith)
@@ -27,7 +28,7 @@ hop_in g marks row next t z h same held = record {
       h.kind;
 }
 
-module _ (g : Shape) (marks : Marking) (old : Row) (start task : ℕ) (few : g.seconds ≤ 16) (t : Trail) (late : (z : ℕ) → 0 < stamp_of t z → start ≤ z) where
+module _ (g : Shape) (marks : Marking) (old : Row) (start task : ℕ) (few : g.seconds ≤ 16) (t : Trail) (late : (z : ℕ) → 0 < depth_of t z → start ≤ z) where
   module _ (row : Row) (x : ℕ) (w : Walk g marks old start task t row x) (ne : x ≡ start → ⊥) where
     pub walk_hop : Hop g marks row t x
     walk_hop = w.tree x w.some (omega arith) ne
@@ -117,20 +118,24 @@ module _ (g : Shape) (marks : Marking) (old : Row) (start task : ℕ) (few : g.s
             let less = h.less in
             let short = walk_hop.less in
             hop_in g marks row next t z h
-            (s.else' (via_of t z) (λ e. omega (arith, ap (stamp_of t) e)) (λ e. omega (arith, ap (stamp_of t) e)))
+            (s.else' (via_of t z) (λ e. omega (arith, ap (depth_of t) e)) (λ e. omega (arith, ap (depth_of t) e)))
             (λ a q pool b o. ⊎_elim
             (λ (_, l, b'). ⊎_elim
             (λ held. (via_of t x, held))
-            (λ e. absurd (omega (arith, ap (stamp_of t) (pool ∙ sym e))))
+            (λ e. absurd (omega (arith, ap (depth_of t) (pool ∙ sym e))))
             (enters a b' l).3.1.1)
             (λ (_, _, e). (q, e))
             (came q a o));
         other = λ z a pos low. w.other z a pos (omega (arith, walk_hop.less));
       }
 
+    -- the same, by what is written down of x
+    pub walk_step : (r : Reach) → reach_at t x ≡ Some r → (next : Row) → Shifted row x r.via r.by next → Walk g marks old start task t next r.via
+    walk_step r is next s = subst (λ y. Walk g marks old start task t next y) (ap reach_via is) (walk_on next (subst (λ (o : Option Reach). Shifted row x (reach_via o) (reach_by o) next) (sym is) s))
+
   -- the task is taken from where it lies
-  module _ (s : Serving g marks.urgent marks.full (at old)) (wide : length old ≡ 16) (tree : Tree g marks old start t 64) (all : (z : ℕ) → stamp_of t z ≤ 64) where
-    pub walk_held : (x : ℕ) → at old x ≡ Some task → 0 < stamp_of t x → Walk g marks old start task t (set old x None) x
+  module _ (s : Serving g marks.urgent marks.full (at old)) (wide : length old ≡ 16) (tree : Tree g marks old start t 18) (all : (z : ℕ) → depth_of t z ≤ 18) where
+    pub walk_held : (x : ℕ) → at old x ≡ Some task → 0 < depth_of t x → Walk g marks old start task t (set old x None) x
     walk_held x held some = record {
       wide = length-set old x None ∙ wide;
       edges = λ q a o. s.edges q a (from q a o).1;
@@ -143,7 +148,7 @@ module _ (g : Shape) (marks : Marking) (old : Row) (start task : ℕ) (few : g.s
       some = some;
       tree = λ z pos low nz. let h = tree z pos (all z) nz in
           let less = h.less in
-          hop_in g marks old (set old x None) t z h (else' (via_of t z) (λ e. omega (arith, ap (stamp_of t) e))) (λ a q _ _ o. (q, (from q a o).1));
+          hop_in g marks old (set old x None) t z h (else' (via_of t z) (λ e. omega (arith, ap (depth_of t) e))) (λ a q _ _ o. (q, (from q a o).1));
       other = λ z a pos low nz v b e. unheld z a (tree z pos (all z) nz).kind v b e;
     }
       where
@@ -168,19 +173,19 @@ module _ (g : Shape) (marks : Marking) (old : Row) (start task : ℕ) (few : g.s
             k)
             kind
 
-    pub walk_pool : ((q : ℕ) → at old q ≡ Some task → ⊥) → 0 < stamp_of t 16 → Walk g marks old start task t old 16
-    walk_pool free some = record {
+    pub walk_free : (n : ℕ) → n ≡ 16 → ((q : ℕ) → at old q ≡ Some task → ⊥) → 0 < depth_of t n → Walk g marks old start task t old n
+    walk_free n pool free some = record {
       wide = wide;
       edges = s.edges;
       apart = s.apart;
       away = free;
-      hole = past old wide 16 (omega arith);
+      hole = past old wide n (omega arith);
       tasks = λ a l u na. s.tasks a l u;
       processors = λ q l u nx. s.processors q l u;
       same = λ q l. refl;
       some = some;
       tree = λ z pos low nz. tree z pos (all z) nz;
-      other = λ z a pos low nz v b e. let h = (tree z pos (all z) nz).less in omega (arith, ap (stamp_of t) v);
+      other = λ z a pos low nz v b e. let h = (tree z pos (all z) nz).less in omega (arith, ap (depth_of t) (v ∙ sym pool));
     }
 
   -- the start takes the task
@@ -207,54 +212,24 @@ module _ (g : Shape) (marks : Marking) (old : Row) (start task : ℕ) (few : g.s
       fits : start < length row
       fits = omega (arith, w.wide)
 
-pub walk_base : (g : Shape) (marks : Marking) (old : Row) (start task : ℕ) (t : Trail) (row : Row) (x : ℕ) → Walk g marks old start task t row x → Walk g marks row start task t row x
-walk_base g marks old start task t row x w = record {
-  wide = w.wide;
-  edges = w.edges;
-  apart = w.apart;
-  away = w.away;
-  hole = w.hole;
-  tasks = w.tasks;
-  processors = w.processors;
-  same = λ q l. refl;
-  some = w.some;
-  tree = w.tree;
-  other = w.other;
-}
-
-pub reached_near : (l : List ℕ) (x : ℕ) → length l ≡ 17 → 0 < get_or l x 0 → x < 17
-reached_near l x wide pos = ⊎_elim (λ k. k) (λ k. absurd (omega (arith, get_or_past l x 0 (omega arith)))) (cases_lt x 17)
-
-pub shifted_one : (row : Row) (x y : ℕ) (v : Option ℕ) → length row ≡ 16 → x < 16 → 16 ≤ y → Shifted row x y v (set row x v)
-shifted_one row x y v wide near far = record {
-  wide = length-set row x v ∙ wide;
-  here = λ _. get_or-set_same row x v None (omega arith);
-  there = past (set row x v) (length-set row x v ∙ wide) y far;
-  else' = λ q nx ny. get_or-set_other row x q v None nx;
-}
-
-pub shifted_none : (row : Row) (x y : ℕ) (v : Option ℕ) → length row ≡ 16 → 16 ≤ x → 16 ≤ y → Shifted row x y v row
-shifted_none row x y v wide far' far = record {
-  wide = wide;
-  here = λ l. absurd (omega arith);
-  there = past row wide y far;
-  else' = λ q nx ny. refl;
-}
-
 -- where a task lies, by its holder
-pub lies_held : (row holder : Row) (task n : ℕ) → Flipped row holder → n ≡ node (at holder task) → n < 16 → at row n ≡ Some task
+pub lies_near : (row holder : Row) (task : ℕ) → length row ≡ 16 → Flipped 64 row holder → node (at holder task) ≤ 16
+lies_near row holder task wide h = by_entry (at holder task) refl
+  where
+    by_entry : (o : Option ℕ) → at holder task ≡ o → node o ≤ 16
+    by_entry None e = omega arith
+    by_entry (Some q) e = ⊎_elim (λ l. omega arith) (λ l. absurd (clash (at row q) task (past row wide q l) (h.again q task e))) (cases_lt q 16)
+
+pub lies_held : (row holder : Row) (task n : ℕ) → Flipped 64 row holder → n ≡ node (at holder task) → n < 16 → at row n ≡ Some task
 lies_held row holder task n h is l = by_entry (at holder task) refl
   where
     by_entry : (o : Option ℕ) → at holder task ≡ o → at row n ≡ Some task
     by_entry None e = absurd (omega (arith, is ∙ ap node e))
     by_entry (Some q) e = ap (at row) (is ∙ ap node e) ∙ h.again q task e
 
-pub lies_free : (row holder : Row) (task n : ℕ) → length row ≡ 16 → Flipped row holder → n ≡ node (at holder task) → 16 ≤ n → (n ≡ 16) × ((q : ℕ) → at row q ≡ Some task → ⊥)
+pub lies_free : (row holder : Row) (task n : ℕ) → length row ≡ 16 → Flipped 64 row holder → n ≡ node (at holder task) → 16 ≤ n → (n ≡ 16) × ((q : ℕ) → at row q ≡ Some task → ⊥)
 lies_free row holder task n wide h is l = by_entry (at holder task) refl
   where
     by_entry : (o : Option ℕ) → at holder task ≡ o → (n ≡ 16) × ((q : ℕ) → at row q ≡ Some task → ⊥)
     by_entry None e = (is ∙ ap node e, λ q o. clash (at holder task) q e (h.forth q task o))
     by_entry (Some q) e = let z : n ≡ q = is ∙ ap node e in absurd (clash (at row q) task (past row wide q (omega arith)) (h.again q task e))
-
-pub walk_from : (g : Shape) (marks : Marking) (old : Row) (start task : ℕ) (t : Trail) (row : Row) (n : ℕ) → n ≡ 16 → (0 < stamp_of t 16 → Walk g marks old start task t row 16) → 0 < stamp_of t n → Walk g marks old start task t row n
-walk_from g marks old start task t row n e w some = subst (λ z. Walk g marks old start task t row z) (sym e) (w (subst (λ z. 0 < stamp_of t z) e some))

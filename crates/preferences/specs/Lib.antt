@@ -1,3 +1,4 @@
 pub mod Preferences
 pub mod Numbers
 pub mod Reach
+pub mod Searches

@@ -1,12 +1,12 @@
 -- What a search from a processor reaches, and what follows for every cover.
-use Rattle.std.specs.Prelude.{◌≡◌, ℕ, ◌+◌, ◌<◌, ◌≤◌, Bool, true, false, not, T, ◌⊎◌, length, Some, None, Option, ◌≢◌, nat_lt, slice_index}
+use Rattle.std.specs.Prelude.{◌≡◌, ℕ, ◌+◌, ◌<◌, ◌≤◌, Bool, true, false, not, T, ◌⊎◌, length, Some, None, Option, ◌≢◌, is_some, slice_index_or}
 use Rattle.counting.specs.Sums.{count_below}
 use Rattle.graphs.specs.Graphs.{Shape, Row, at}
-use Rattle.graphs.specs.Search.{flag}
 use Rattle.graphs.specs.Covers.{Marking}
 use Rattle.pairings.specs.Servings.{Serving}
 use Rattle.preferences.specs.Preferences.{Order, EntryBefore}
 use Rattle.preferences.specs.declared.trails.Trail.{Trail}
+use Rattle.preferences.specs.declared.trails.Reach.{Reach}
 
 -- the node at which a task lies: its holder, or the pool
 abbrev pub node : Option ℕ → ℕ
@@ -47,18 +47,45 @@ pub record Led (order : Order) (had : Option ℕ) (g : Shape) (marks : Marking) 
   pub same : (q : ℕ) → q < p → at next q ≡ at row q
   pub best : (f : ℕ → Option ℕ) → Agrees g marks row p f → (at next p ≡ f p) ⊎ EntryBefore order p had (at next p) (f p)
 
--- when a node was reached; 0 if it was not
-abbrev pub stamp_of : Trail → ℕ → ℕ
-stamp_of t x = slice_index t.stamp x
+-- how a node was reached, if it was
+abbrev pub reach_at : Trail → ℕ → Option Reach
+reach_at t x = slice_index_or t.nodes x None
 
-abbrev pub via_of : Trail → ℕ → ℕ
-via_of t x = slice_index t.via x
+abbrev pub reach_depth : Option Reach → ℕ
+reach_depth None = 0
+reach_depth (Some r) = r.depth + 1
 
-abbrev pub by_of : Trail → ℕ → Option ℕ
-by_of t x = at t.by x
+abbrev pub reach_via : Option Reach → ℕ
+reach_via None = 0
+reach_via (Some r) = r.via
+
+abbrev pub reach_by : Option Reach → Option ℕ
+reach_by None = None
+reach_by (Some r) = r.by
+
+abbrev pub reach_followed : Option Reach → Bool
+reach_followed None = false
+reach_followed (Some r) = r.followed
 
 abbrev pub reached : Trail → ℕ → Bool
-reached t x = nat_lt 0 (stamp_of t x)
+reached t x = is_some (reach_at t x)
+
+-- how many nodes are on the way to a node, itself among them; 0 if it was not reached
+abbrev pub depth_of : Trail → ℕ → ℕ
+depth_of t x = reach_depth (reach_at t x)
+
+abbrev pub via_of : Trail → ℕ → ℕ
+via_of t x = reach_via (reach_at t x)
+
+abbrev pub by_of : Trail → ℕ → Option ℕ
+by_of t x = reach_by (reach_at t x)
+
+abbrev pub followed : Trail → ℕ → Bool
+followed t x = reach_followed (reach_at t x)
+
+-- how many nodes are not followed
+unfoldable pub left_over : Trail → ℕ
+left_over t = count_below 17 (λ x. not (followed t x))
 
 -- x takes the task that y holds
 pub record Passes (g : Shape) (row : Row) (x y : ℕ) (by : Option ℕ) : Type 0 where
@@ -94,45 +121,61 @@ abbrev pub Kind : Shape → Marking → Row → ℕ → ℕ → Option ℕ → T
 Kind g marks row x y by = Passes g row x y by ⊎ (Draws g row x y by ⊎ (Idles marks x y by ⊎ Pools marks row x y))
 
 pub record Hop (g : Shape) (marks : Marking) (row : Row) (t : Trail) (x : ℕ) : Type 0 where
-  pub some : 0 < stamp_of t (via_of t x)
-  pub less : stamp_of t (via_of t x) < stamp_of t x
+  pub some : 0 < depth_of t (via_of t x)
+  pub less : depth_of t (via_of t x) < depth_of t x
   pub kind : Kind g marks row x (via_of t x) (by_of t x)
 
 abbrev pub Tree : Shape → Marking → Row → ℕ → Trail → ℕ → Type 0
-Tree g marks row start t k = (x : ℕ) → 0 < stamp_of t x → stamp_of t x ≤ k → (x ≢ start) → Hop g marks row t x
+Tree g marks row start t k = (x : ℕ) → 0 < depth_of t x → depth_of t x ≤ k → (x ≢ start) → Hop g marks row t x
 
--- the tables of a search from the start
-pub record Trailed (g : Shape) (marks : Marking) (row : Row) (start step : ℕ) (t : Trail) : Type 0 where
-  pub stamp_wide : length t.stamp ≡ 17
-  pub done_wide : length t.done ≡ 17
-  pub via_wide : length t.via ≡ 17
-  pub by_wide : length t.by ≡ 17
-  pub first : 0 < stamp_of t start
-  pub late : (x : ℕ) → 0 < stamp_of t x → start ≤ x
-  pub low : (x : ℕ) → stamp_of t x ≤ step
-  pub tree : Tree g marks row start t 64
+-- the table of a search from the start: no way is longer than one through all nodes that are followed
+pub record Trailed (g : Shape) (marks : Marking) (row : Row) (start : ℕ) (t : Trail) : Type 0 where
+  pub wide : length t.nodes ≡ 17
+  pub first : 0 < depth_of t start
+  pub late : (x : ℕ) → 0 < depth_of t x → start ≤ x
+  pub low : (x : ℕ) → depth_of t x + left_over t ≤ 18
+  pub tree : Tree g marks row start t 18
 
--- what was reached still is
+-- y is reached, and the table has room for a way that is one longer
+pub record HasRoom (t : Trail) (y : ℕ) : Type 0 where
+  pub near : y < 17
+  pub some : 0 < depth_of t y
+  pub room : depth_of t y + left_over t ≤ 17
+
+-- x is reached and not followed yet
+pub record Pending (t : Trail) (x : ℕ) : Type 0 where
+  pub near : x < 17
+  pub some : 0 < depth_of t x
+  pub open' : followed t x ≡ false
+
+-- x is followed from now on
+pub record Ticked (s : Trail) (x : ℕ) (t : Trail) : Type 0 where
+  pub before : Pending s x
+  pub wide : length t.nodes ≡ 17
+  pub depth : depth_of t x ≡ depth_of s x
+  pub via : via_of t x ≡ via_of s x
+  pub by : by_of t x ≡ by_of s x
+  pub after : followed t x ≡ true
+  pub others : (z : ℕ) → (z ≢ x) → reach_at t z ≡ reach_at s z
+
+-- what was reached still is, and no more is followed
 pub record More (s t : Trail) : Type 0 where
-  pub kept : (x : ℕ) → 0 < stamp_of s x → 0 < stamp_of t x
-  pub done : t.done ≡ s.done
+  pub kept : (x : ℕ) → 0 < depth_of s x → depth_of t x ≡ depth_of s x
+  pub same : (x : ℕ) → followed t x ≡ followed s x
 
 -- all that x leads to is reached
 pub record Followed (g : Shape) (marks : Marking) (row : Row) (start : ℕ) (t : Trail) (x : ℕ) : Type 0 where
-  pub idle : at row x ≡ None → 0 < stamp_of t 16
-  pub loose : (a : ℕ) → at row x ≡ Some a → marks.urgent a ≡ false → 0 < stamp_of t 16
-  pub pass : (a r : ℕ) → at row x ≡ Some a → start < r → r < g.seconds → g.joined a r ≡ true → 0 < stamp_of t r
+  pub idle : at row x ≡ None → 0 < depth_of t 16
+  pub loose : (a : ℕ) → at row x ≡ Some a → marks.urgent a ≡ false → 0 < depth_of t 16
+  pub pass : (a r : ℕ) → at row x ≡ Some a → start < r → r < g.seconds → g.joined a r ≡ true → 0 < depth_of t r
 
 -- all that the pool leads to is reached, below k
 pub record Drawn (g : Shape) (marks : Marking) (row holder : Row) (start : ℕ) (t : Trail) (k : ℕ) : Type 0 where
-  pub slack : (r a : ℕ) → start < r → r < k → at row r ≡ Some a → marks.full r ≡ false → 0 < stamp_of t r
-  pub draw : (a r : ℕ) → a < g.firsts → at holder a ≡ None → start < r → r < k → g.joined a r ≡ true → 0 < stamp_of t r
+  pub slack : (r a : ℕ) → start < r → r < k → at row r ≡ Some a → marks.full r ≡ false → 0 < depth_of t r
+  pub draw : (a r : ℕ) → a < g.firsts → at holder a ≡ None → start < r → r < k → g.joined a r ≡ true → 0 < depth_of t r
 
 abbrev pub Expanded : Shape → Marking → Row → Row → ℕ → Trail → ℕ → Type 0
 Expanded g marks row holder start t x = (x < 16 → Followed g marks row start t x) × (x ≡ 16 → Drawn g marks row holder start t g.seconds)
-
-abbrev pub undone : Trail → ℕ → Bool
-undone t x = not (flag t.done x)
 
 -- while the task moves: x is empty, the task is with nobody
 pub record Walk (g : Shape) (marks : Marking) (old : Row) (start task : ℕ) (t : Trail) (row : Row) (x : ℕ) : Type 0 where
@@ -144,9 +187,9 @@ pub record Walk (g : Shape) (marks : Marking) (old : Row) (start task : ℕ) (t 
   pub tasks : (a : ℕ) → a < g.firsts → marks.urgent a ≡ true → (a ≢ task) → (q : ℕ) × (at row q ≡ Some a)
   pub processors : (q : ℕ) → q < g.seconds → marks.full q ≡ true → (q ≢ x) → (a : ℕ) × (at row q ≡ Some a)
   pub same : (q : ℕ) → q < start → at row q ≡ at old q
-  pub some : 0 < stamp_of t x
-  pub tree : Tree g marks row start t (stamp_of t x)
-  pub other : (z a : ℕ) → 0 < stamp_of t z → stamp_of t z ≤ stamp_of t x → (z ≢ start) → via_of t z ≡ 16 → by_of t z ≡ Some a → a ≢ task
+  pub some : 0 < depth_of t x
+  pub tree : Tree g marks row start t (depth_of t x)
+  pub other : (z a : ℕ) → 0 < depth_of t z → depth_of t z ≤ depth_of t x → (z ≢ start) → via_of t z ≡ 16 → by_of t z ≡ Some a → a ≢ task
 
 -- a row after y let go and x took
 pub record Shifted (row : Row) (x y : ℕ) (v : Option ℕ) (next : Row) : Type 0 where
@@ -166,24 +209,21 @@ abbrev pub Chosen : Order → Option ℕ → Shape → Row → (ℕ → Bool) �
 Chosen order had g holder in' p k None = (b : ℕ) → b < k → g.joined b p ≡ true → in' (node (at holder b)) ≢ true
 Chosen order had g holder in' p k (Some a) = Best order had g holder in' p k a
 
--- while the search goes on: what is done leads to nothing new
-pub record Exploring (g : Shape) (marks : Marking) (row holder : Row) (start step : ℕ) (t : Trail) : Type 0 where
-  pub trailed : Trailed g marks row start step t
-  pub done : (x : ℕ) → x < 17 → flag t.done x ≡ true → Expanded g marks row holder start t x
-  pub count : step + count_below 17 (undone t) ≤ 18
+-- while the search goes on: what is followed leads to nothing new
+pub record Exploring (g : Shape) (marks : Marking) (row holder : Row) (start : ℕ) (t : Trail) : Type 0 where
+  pub trailed : Trailed g marks row start t
+  pub done : (x : ℕ) → x < 17 → followed t x ≡ true → Expanded g marks row holder start t x
 
 -- while the task of y is passed on: the processors below k are seen
-pub record Passing (g : Shape) (marks : Marking) (row : Row) (start step y a : ℕ) (s t : Trail) (k : ℕ) : Type 0 where
-  pub trailed : Trailed g marks row start step t
+pub record Passing (g : Shape) (marks : Marking) (row : Row) (start y a : ℕ) (s t : Trail) (k : ℕ) : Type 0 where
+  pub trailed : Trailed g marks row start t
   pub more : More s t
-  pub some : 0 < stamp_of t y
-  pub less : stamp_of t y < step
-  pub pass : (r : ℕ) → start < r → r < k → g.joined a r ≡ true → 0 < stamp_of t r
+  pub room : HasRoom t y
+  pub pass : (r : ℕ) → start < r → r < k → g.joined a r ≡ true → 0 < depth_of t r
 
 -- while the pool is drawn on
-pub record Drawing (g : Shape) (marks : Marking) (row holder : Row) (start step : ℕ) (s t : Trail) (k : ℕ) : Type 0 where
-  pub trailed : Trailed g marks row start step t
+pub record Drawing (g : Shape) (marks : Marking) (row holder : Row) (start : ℕ) (s t : Trail) (k : ℕ) : Type 0 where
+  pub trailed : Trailed g marks row start t
   pub more : More s t
-  pub some : 0 < stamp_of t 16
-  pub less : stamp_of t 16 < step
+  pub room : HasRoom t 16
   pub drawn : Drawn g marks row holder start t k

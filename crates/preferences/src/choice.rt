@@ -1,20 +1,9 @@
-ghost use Rattle.std.specs.Prelude.{◌≡◌, ℕ, ◌<◌, true, ◌&&◌, Some, MatchOption};
-ghost use Rattle.graphs.specs.Graphs.{Small, at};
-ghost use Rattle.preferences.specs.Reach.{node, reached, Chosen};
+ghost use Rattle.std.specs.Prelude.{◌≡◌, ◌<◌, ◌≤◌, true, ◌&&◌, MatchOption};
 
 use crate::preference::Preference;
-use crate::trails::Trail;
+use crate::search::Search;
+use crate::trails::{POOL, Trail};
 use graphs::Graph;
-
-// The node at which a task lies.
-pub(crate) fn node_of(holder: Option<u8>) -> usize
-    ensures { result ≡ node holder }
-{
-    match holder {
-        Some(q) => q as usize,
-        None => 16,
-    }
-}
 
 // Whether the task is preferred to what is found so far.
 fn preferred<P: Preference>(
@@ -26,47 +15,45 @@ fn preferred<P: Preference>(
 ) -> bool
     ensures { MatchOption found (result ≡ true) (λ a. result ≡ P.order preference.now processor had task a) }
 {
-    match found {
-        Some(a) => preference.comes_before(processor, had, task, a),
-        None => true,
+    found.is_none_or(|best| preference.comes_before(processor, had, task, best))
+}
+
+impl<'a, G: Graph> Search<'a, G> {
+    ghost use Rattle.graphs.specs.Graphs.{at};
+    ghost use Rattle.preferences.specs.Reach.{node, reached, Chosen};
+
+    // The node at which a task lies.
+    pub(crate) fn node_of(&self, task: usize) -> usize
+        requires { task < 64 }
+        ensures is { result ≡ node (at self.now.holder task) }
+        ensures near { result ≤ POOL }
+    {
+        self.holder[task].map_or(POOL, usize::from)
     }
-}
 
-// Whether the task is joined to the processor and lies at a node that was reached.
-fn at_hand<G: Graph>(
-    graph: &G,
-    holder: &[Option<u8>; 64],
-    trail: &Trail,
-    p: usize,
-    task: usize,
-) -> bool
-    requires low { task < 64 }
-    requires near { (a q : ℕ) → at holder.now a ≡ Some q → q < 17 }
-    ensures { result ≡ (reached trail.now (node (at holder.now task)) && (G.shape graph.now).joined task p) }
-{
-    trail.stamp[node_of(holder[task])] > 0 && graph.joins(task, p)
-}
+    // Whether the task is joined to the start and lies at a node that was reached.
+    fn at_hand(&self, trail: &Trail, task: usize) -> bool
+        requires { task < 64 }
+        ensures { result ≡ (reached trail.now (node (at self.now.holder task)) && (G.shape self.now.graph.now).joined task self.now.start) }
+    {
+        trail.nodes[self.node_of(task)].is_some() && self.graph.joins(task, self.start)
+    }
 
-// The most preferred task of those at hand.
-pub(crate) fn choose<G: Graph, P: Preference>(
-    graph: &G,
-    preference: &P,
-    had: Option<u8>,
-    holder: &[Option<u8>; 64],
-    trail: &Trail,
-    p: usize,
-) -> Option<usize>
-    requires near { (a q : ℕ) → at holder.now a ≡ Some q → q < 17 }
-    ensures chosen { Chosen (P.order preference.now) had (G.shape graph.now) holder.now (reached trail.now) p (G.shape graph.now).firsts result }
-    ensures small { Small (G.shape graph.now) }
-{
-    let mut best = None;
-    for task in 0..graph.firsts() {
-        if at_hand(graph, holder, trail, p, task) {
-            if preferred(preference, p, had, task, best) {
+    // The most preferred task of those at hand.
+    pub(crate) fn choose<P: Preference>(
+        &self,
+        trail: &Trail,
+        preference: &P,
+        had: Option<u8>,
+    ) -> Option<usize>
+        ensures { Chosen (P.order preference.now) had (G.shape self.now.graph.now) self.now.holder (reached trail.now) self.now.start (G.shape self.now.graph.now).firsts result }
+    {
+        let mut best = None;
+        for task in 0..self.graph.firsts() {
+            if self.at_hand(trail, task) && preferred(preference, self.start, had, task, best) {
                 best = Some(task);
             }
         }
+        best
     }
-    best
 }

@@ -3,9 +3,11 @@
 
 mod by_number;
 mod choice;
+mod explore;
 mod first;
 mod moves;
 mod preference;
+mod search;
 mod trails;
 
 pub use by_number::ByNumber;

@@ -7,6 +7,7 @@ pub enum RankRefusal {
     NotEachOnce,
 }
 
+// A method and no cast: a contract cannot read an enum's `as u8`.
 impl RankRefusal {
     /// The number that a refusal is known by.
     pub fn number(self) -> u8
