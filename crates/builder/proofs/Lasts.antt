@@ -1,148 +1,99 @@
--- How long a row may last, a line at a time, and what is left after it.
-use Rattle.std.proofs.Common.{◌≡◌, ℕ, ◌+◌, ◌-◌, ◌<◌, ◌≤◌, min, cond, ltb, List, [], length, get_or, set, Some, None, sym, refl, ap, ◌∙◌, inl, inr, arith, length-set}
-use mathlib.Core.Path.{fun_ext}
-use native.Mathlib.Nat.{min-le_left, min-le_right}
-use Rattle.std.proofs.lemmas.Bool.{cases_eq, cases_lt, lt-ltb, le-ltb, cond-true, cond-false}
-use Rattle.std.proofs.lemmas.List.{get_or-set_same, get_or-set_other, get_or_past, set_past}
-use Rattle.counting.specs.Sums.{sum_below}
+-- The longest time that a row may last is the least of what its lines allow.
+use Rattle.std.proofs.Common.{◌≡◌, ℕ, ◌<◌, ◌≤◌, true, ltb, length, Some, None, Option, ◌⊎◌, sym, ap, ◌∙◌, inl, inr, arith}
+use Rattle.std.proofs.lemmas.Bool.{cases_lt, lt-ltb, le-ltb, cond-true, cond-false, eqb-true}
+use Rattle.std.proofs.lemmas.List.{get_or_past}
+use Rattle.std.proofs.lemmas.List.Sums.{passes_at_first, fails_before_first}
+use Rattle.std.specs.List.{position_or_len}
+use Rattle.counting.proofs.Sums.{point_le_sum}
 use Rattle.graphs.specs.Graphs.{Row, at}
-use Rattle.graphs.specs.Covers.{Cover}
-use Rattle.sheets.specs.Cells.{cell}
-use Rattle.sheets.specs.Loads.{Load, task_total, processor_total}
-use Rattle.plans.specs.Plans.{Within}
-use Rattle.plans.specs.Remaining.{graph, marks}
-use Rattle.counting.proofs.Sums.{point_le_sum, sum_more}
-use Rattle.plans.proofs.Rows.{none_or_some, same_entry}
-use Rattle.builder.specs.Building.{MayLast, Longest, laid}
-use Rattle.builder.specs.Lasting.{ProcessorLasts, TaskLasts, Least, Taken}
-use Rattle.builder.proofs.Steps.{cases_entry, none_or_named, laid_at, laid_off}
+use Rattle.sheets.specs.Loads.{Load}
+use Rattle.plans.specs.Plans.{Within, is_task}
+use Rattle.plans.proofs.Rows.{none_or_some}
+use Rattle.builder.specs.Building.{MayLast, Longest}
+use Rattle.builder.specs.Lasting.{holder, lasting}
+use Rattle.builder.specs.Reading.{across}
+use Rattle.builder.proofs.Calls.{least, least_first, least_each, least_most}
+use Rattle.builder.proofs.Steps.{none_or_named, is_task_true}
 
-min_most : (e x y : ℕ) → e ≤ x → e ≤ y → e ≤ min x y
-min_most e x y hx hy = omega arith
+is_task_at : (t : ℕ) (o : Option ℕ) → is_task t o ≡ true → o ≡ Some t
+is_task_at t None h = cc
+is_task_at t (Some a) h = ap Some (eqb-true a t h)
 
-module _ (left : Load) (row : Row) (cover : Cover (graph left) (marks left) row) (within : Within left) where
-  pub may_within : 0 < left.processors → (e : ℕ) → MayLast left row e → e ≤ left.frame
-  may_within some e may =
+module _ (row : Row) (t : ℕ) where
+  -- the holder of a task has it, and where it has none, nobody does
+  pub holder_cases : ((p : ℕ) × (holder row t ≡ Some p) × (at row p ≡ Some t)) ⊎ ((holder row t ≡ None) × ((p : ℕ) → at row p ≡ Some t → ⊥))
+  holder_cases =
+      let first = position_or_len (is_task t) row in
+      elim (cases_lt first (length row)) [
+        | inl found ↦ inl (first, cond-true (ltb first (length row)) (Some first) None (lt-ltb first (length row) found), is_task_at t (at row first) (passes_at_first (is_task t) row None found))
+        | inr none ↦ inr (
+          cond-false (ltb first (length row)) (Some first) None (le-ltb first (length row) none),
+          λ p e. elim (cases_lt p (length row)) [
+            | inl low ↦ let told = sym (is_task_true t (at row p) e) ∙ fails_before_first (is_task t) row p None (omega arith) in cc
+            | inr high ↦ none_or_some (at row p) t (get_or_past row p None high) e
+          ],
+        )
+      ]
+
+  pub holder_at : (p : ℕ) → holder row t ≡ Some p → at row p ≡ Some t
+  holder_at p e =
+      elim holder_cases [
+        | inl found ↦ let told = sym e ∙ found.1 in let same : p ≡ found.0 = cc in ap (at row) same ∙ found.2
+        | inr none ↦ absurd (none_or_some (holder row t) p none.0 e)
+      ]
+
+module _ (left : Load) (row : Row) (pairs : (p t : ℕ) → at row p ≡ Some t → (t < left.tasks) × (p < left.processors)) (within : Within left) (some : 1 ≤ left.processors) where
+  may_within : (e : ℕ) → MayLast left row e → e ≤ left.frame
+  may_within e may =
       elim (none_or_named (at row 0)) [
         | inl none ↦ omega (arith, may.processors 0 some none)
-        | inr named ↦
-            let (t, is) = named in
-            omega (arith, may.pairs 0 t some is, point_le_sum left.tasks (λ u. left.ticks u 0) t (cover.edges 0 t is).0, within.processors 0 some)
+        | inr named ↦ omega (arith, may.pairs 0 named.0 some named.1, point_le_sum left.tasks (λ u. left.ticks u 0) named.0 (pairs 0 named.0 named.1).0, within.processors 0 some)
       ]
 
-  pub least_none : 0 < left.processors → Least left row 0 0 left.frame
-  least_none some = record { pairs = λ p t h e. absurd (omega arith); processors = λ p h e. absurd (omega arith); tasks = λ t h e. absurd (omega arith); most = may_within some }
+  abbrev by_task : ℕ → ℕ
+  by_task t = lasting left t (holder row t)
 
-  pub lasts_named : 0 < left.processors → (t p : ℕ) → p < left.processors → at row p ≡ Some t → TaskLasts left row t left.frame
-  lasts_named some t p h e = record { idle = λ none. absurd (none p h e); most = may_within some }
+  abbrev by_processor : ℕ → ℕ
+  by_processor p = lasting (across left) p (at row p)
 
-pub least_processor : (left : Load) (row : Row) (i x y z : ℕ) → Least left row i 0 x → ProcessorLasts left row i y → z ≡ min x y → Least left row (i + 1) 0 z
-least_processor left row i x y z least here value =
-    record {
-      pairs = λ p t h e. elim (cases_eq p i) [
-        | inl same ↦ omega (arith, here.pair t (ap (at row) (sym same) ∙ e), ap (λ q. left.ticks t q) same, min-le_right x y)
-        | inr ne ↦ omega (arith, least.pairs p t (omega arith) e, min-le_left x y)
-      ];
-      processors = λ p h e. elim (cases_eq p i) [
-        | inl same ↦ omega (arith, here.idle (ap (at row) (sym same) ∙ e), ap (processor_total left) same, min-le_right x y)
-        | inr ne ↦ omega (arith, least.processors p (omega arith) e, min-le_left x y)
-      ];
-      tasks = λ t h. absurd (omega arith);
-      most = λ e may. omega (arith, min_most e x y (least.most e may) (here.most e may));
-    }
+  abbrev of_lines : ℕ
+  of_lines = least by_processor (least by_task left.frame 0 left.tasks) 0 left.processors
 
-pub least_task : (left : Load) (row : Row) (m j x y z : ℕ) → Least left row m j x → TaskLasts left row j y → z ≡ min x y → Least left row m (j + 1) z
-least_task left row m j x y z least here value =
-    record {
-      pairs = λ p t h e. omega (arith, least.pairs p t h e, min-le_left x y);
-      processors = λ p h e. omega (arith, least.processors p h e, min-le_left x y);
-      tasks = λ t h none. elim (cases_eq t j) [
-        | inl same ↦ omega (arith, here.idle (λ p l e. none p l (e ∙ ap Some (sym same))), ap (task_total left) same, min-le_right x y)
-        | inr ne ↦ omega (arith, least.tasks t (omega arith) none, min-le_left x y)
-      ];
-      most = λ e may. omega (arith, min_most e x y (least.most e may) (here.most e may));
-    }
+  task_allows : (t : ℕ) → t < left.tasks → of_lines ≤ by_task t
+  task_allows t h = omega (arith, least_first by_processor (least by_task left.frame 0 left.tasks) 0 left.processors, least_each by_task left.frame 0 left.tasks t (omega arith) (omega arith))
 
-pub longest_from : (left : Load) (row : Row) (j x : ℕ) → Least left row left.processors j x → left.tasks ≤ j → Longest left row x
-longest_from left row j x least all =
-    record {
-      may = record { pairs = λ p t h e. least.pairs p t h e; tasks = λ t h none. least.tasks t (omega arith) none; processors = λ p h e. least.processors p h e };
-      most = least.most;
-    }
+  processor_allows : (p : ℕ) → p < left.processors → of_lines ≤ by_processor p
+  processor_allows p h = least_each by_processor (least by_task left.frame 0 left.tasks) 0 left.processors p (omega arith) (omega arith)
 
--- lines with another number at one place
-module _ (lines : List (List ℕ)) (t p : ℕ) (near : t < length lines) where
-  taken_cell : (d : ℕ) → cell (set lines t (set (get_or lines t []) p (cell lines t p - d))) t p ≡ cell lines t p - d
-  taken_cell d =
-      let line : List ℕ = get_or lines t [] in
-      let outer = ap (λ (r : List ℕ). get_or r p 0) (get_or-set_same lines t (set line p (get_or line p 0 - d)) [] near) in
-      elim (cases_lt p (length line)) [
-        | inl low ↦ outer ∙ get_or-set_same line p (get_or line p 0 - d) 0 low
-        | inr high ↦ omega (arith, outer, get_or_past line p 0 high, ap (λ (r : List ℕ). get_or r p 0) (set_past line p (get_or line p 0 - d) high))
+  most_by_task : (e : ℕ) → MayLast left row e → (t : ℕ) → t < left.tasks → e ≤ by_task t
+  most_by_task e may t h =
+      elim (holder_cases row t) [
+        | inl found ↦ omega (arith, ap (lasting left t) found.1, may.pairs found.0 t (pairs found.0 t found.2).1 found.2)
+        | inr none ↦ omega (arith, ap (lasting left t) none.0, may.tasks t h (λ p l. none.1 p))
       ]
 
-  other_cell : (x u q : ℕ) → (u ≡ t → q ≡ p → ⊥) → cell (set lines t (set (get_or lines t []) p x)) u q ≡ cell lines u q
-  other_cell x u q other =
-      elim (cases_eq u t) [
-        | inl e ↦
-            ap (λ k. cell (set lines t (set (get_or lines t []) p x)) k q) e ∙ ap (λ (r : List ℕ). get_or r q 0) (get_or-set_same lines t (set (get_or lines t []) p x) [] near) ∙
-            get_or-set_other (get_or lines t []) p q x 0 (other e) ∙ ap (λ k. cell lines k q) (sym e)
-        | inr ne ↦ ap (λ (r : List ℕ). get_or r q 0) (get_or-set_other lines t u (set (get_or lines t []) p x) [] ne)
+  most_by_processor : (e : ℕ) → MayLast left row e → (p : ℕ) → p < left.processors → e ≤ by_processor p
+  most_by_processor e may p h =
+      elim (none_or_named (at row p)) [
+        | inl none ↦ omega (arith, ap (lasting (across left) p) none, may.processors p h none)
+        | inr named ↦ omega (arith, ap (lasting (across left) p) named.1, may.pairs p named.0 h named.1)
       ]
 
-pub taken_none : (lines : List (List ℕ)) (row : Row) (d : ℕ) → Taken lines lines row 0 d
-taken_none lines row d = record { tall = refl; here = λ t p h e. absurd (omega arith); off = λ t p none. refl }
-
-pub taken_idle : (a b : List (List ℕ)) (row : Row) (p d : ℕ) → Taken a b row p d → at row p ≡ None → Taken a b row (p + 1) d
-taken_idle a b row p d taken none =
-    record {
-      tall = taken.tall;
-      here = λ t q h e. elim (cases_eq q p) [ inl same ↦ absurd (none_or_some (at row p) t none (ap (at row) (sym same) ∙ e)) | inr ne ↦ taken.here t q (omega arith) e ];
-      off = λ t q free. taken.off t q (λ l e. free (omega arith) e);
-    }
-
-pub taken_pair : (a b : List (List ℕ)) (row : Row) (p t d : ℕ) → Taken a b row p d → at row p ≡ Some t → t < length a → Taken a (set b t (set (get_or b t []) p (cell b t p - d))) row (p + 1) d
-taken_pair a b row p t d taken is ht =
-    let near : t < length b = omega (arith, taken.tall) in
-    let b' : List (List ℕ) = set b t (set (get_or b t []) p (cell b t p - d)) in
-    record {
-      tall = length-set b t (set (get_or b t []) p (cell b t p - d)) ∙ taken.tall;
-      here = λ u q h e. elim (cases_eq q p) [
-        | inl same ↦
-            let task : u ≡ t = same_entry (at row p) u t (ap (at row) (sym same) ∙ e) is in
-            omega (
-              arith,
-              ap (λ k. cell b' k q) task,
-              ap (λ k. cell b' t k) same,
-              taken_cell b t p near d,
-              taken.off t p (λ l. absurd (omega arith)),
-              ap (λ k. cell a k q) task,
-              ap (λ k. cell a t k) same,
-            )
-        | inr ne ↦ other_cell b t p near (cell b t p - d) u q (λ _ s. ne s) ∙ taken.here u q (omega arith) e
-      ];
-      off = λ u q free. other_cell b t p near (cell b t p - d) u q (λ task place. free (omega arith) (ap (at row) place ∙ is ∙ ap Some (sym task))) ∙ taken.off u q (λ l e. free (omega arith) e);
-    }
-
--- what is left when the ticks of a slot are taken
-module _ (n m frame : ℕ) (a b : List (List ℕ)) (row : Row) (d : ℕ) (taken : Taken a b row m d) where
-  abbrev pub whole : Load
-  whole = record { tasks = n; processors = m; frame = frame; ticks = cell a }
-
-  laid_cell : Cover (graph whole) (marks whole) row → (t p : ℕ) → cell b t p ≡ (laid whole row d).ticks t p
-  laid_cell cover t p =
-      elim (cases_entry (at row p) t) [
-        | inl e ↦ omega (arith, taken.here t p (cover.edges p t e).1 e, laid_at whole row d t p e)
-        | inr ne ↦ omega (arith, taken.off t p (λ l. ne), laid_off whole row d t p ne)
-      ]
-
-  pub laid_lines : Cover (graph whole) (marks whole) row → ◌≡◌ {A = Load} (record { tasks = n; processors = m; frame = frame - d; ticks = cell b }) (laid whole row d)
-  laid_lines cover = λ i. record { tasks = n; processors = m; frame = frame - d; ticks = fun_ext (λ t. fun_ext (λ p. laid_cell cover t p)) i }
-
--- pairs with ticks, counted
-module _ (f : ℕ → ℕ) (p count : ℕ) (is : count ≡ sum_below p (λ q. cond (ltb 0 (f q)) 1 0)) where
-  pub load_some : 0 < f p → count + 1 ≡ sum_below (p + 1) (λ q. cond (ltb 0 (f q)) 1 0)
-  load_some some = omega (arith, sum_more p (λ q. cond (ltb 0 (f q)) 1 0), cond-true {A = ℕ} (ltb 0 (f p)) 1 0 (lt-ltb 0 (f p) some))
-
-  pub load_none : f p ≤ 0 → count ≡ sum_below (p + 1) (λ q. cond (ltb 0 (f q)) 1 0)
-  load_none none = omega (arith, sum_more p (λ q. cond (ltb 0 (f q)) 1 0), cond-false {A = ℕ} (ltb 0 (f p)) 1 0 (le-ltb 0 (f p) none))
+  pub longest_of_lines : (d : ℕ) → d ≡ least by_processor (least by_task left.frame 0 left.tasks) 0 left.processors → Longest left row d
+  longest_of_lines d is =
+      record {
+        may = record {
+          pairs = λ p t h e. omega (arith, processor_allows p h, ap (lasting (across left) p) e);
+          tasks = λ t h none. elim (holder_cases row t) [
+            | inl found ↦ absurd (none found.0 (pairs found.0 t found.2).1 found.2)
+            | inr idle ↦ omega (arith, task_allows t h, ap (lasting left t) idle.0, within.tasks t h)
+          ];
+          processors = λ p h none. omega (arith, processor_allows p h, ap (lasting (across left) p) none, within.processors p h);
+        };
+        most = λ e may. omega (
+          arith,
+          least_most by_processor e (least by_task left.frame 0 left.tasks) 0 left.processors
+              (least_most by_task e left.frame 0 left.tasks (may_within e may) (λ t _ h. most_by_task e may t (omega arith)))
+              (λ p _ h. most_by_processor e may p (omega arith)),
+        );
+      }

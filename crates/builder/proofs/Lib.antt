@@ -1,5 +1,7 @@
-pub mod Flags
+pub mod Marks
 pub mod Steps
+pub mod Taking
 pub mod Reaching
-pub mod Lasts
 pub mod Turns
+pub mod Calls
+pub mod Lasts

@@ -4,7 +4,7 @@ use Rattle.std.proofs.lemmas.Bool.{cases_lt, lt-ltb, le-ltb, cond-true, cond-fal
 use Rattle.counting.specs.Sums.{sum_below}
 use Rattle.graphs.specs.Graphs.{Row, at}
 use Rattle.graphs.specs.Covers.{Cover}
-use Rattle.sheets.specs.Loads.{Load, places_needed}
+use Rattle.sheets.specs.Loads.{Load}
 use Rattle.plans.specs.Plans.{is_task, UnitPlan, Within}
 use Rattle.plans.specs.Remaining.{graph, marks}
 use Rattle.counting.proofs.Sums.{sum_same, sum_zero, point_le_sum, sum_split}
@@ -12,7 +12,7 @@ use Rattle.plans.proofs.Rows.{hit, hit_of}
 use Rattle.builder.specs.declared.slots.Slot.{Slot}
 use Rattle.builder.specs.Building.{Longest, laid, Next, Built, read}
 use Rattle.pairings.specs.Rules.{Rule}
-use Rattle.builder.proofs.Steps.{potential, potential_small, potential_falls, within_laid, within_frame, cases_entry, laid_at, laid_off, is_task_false}
+use Rattle.builder.proofs.Steps.{potential, potential_falls, within_laid, within_frame, cases_entry, laid_at, laid_off, is_task_false}
 
 -- from a load and a row, slots that leave a load and end in a row
 pub data Reaches (admits : Rule) : Load → Row → List Slot → Load → Row → Type 0 where
@@ -27,18 +27,10 @@ pub built : {admits : Rule} {s left : Load} {before last : Row} {slots : List Sl
 built here done = done
 built (there first rest) done = (first, built rest done)
 
-pub within_left : {admits : Rule} {s left : Load} {before last : Row} {slots : List Slot} → Reaches admits s before slots left last → Within s → Within left
-within_left here within = within
-within_left {s = s} (there {slot = slot} first rest) within = within_left rest (within_laid s slot.row slot.ticks first.cover first.longest.may within)
-
 pub count_left : {admits : Rule} {s left : Load} {before last : Row} {slots : List Slot} → Reaches admits s before slots left last → Within s → length slots + potential left ≤ potential s
 count_left here within = omega arith
 count_left {s = s} (there {slot = slot} first rest) within =
     omega (arith, potential_falls s slot.row slot.ticks first.cover within first.longest, count_left rest (within_laid s slot.row slot.ticks first.cover first.longest.may within))
-
--- room for one more
-pub room_left : {admits : Rule} {s left : Load} {before last : Row} {slots : List Slot} → Reaches admits s before slots left last → Within s → (slot : Slot) → Next admits left last slot → length slots < places_needed s
-room_left {s = s} {left = left} r within slot next = omega (arith, count_left r within, potential_small s, potential_falls left slot.row slot.ticks next.cover (within_left r within) next.longest)
 
 sum_ones : (k : ℕ) (f : ℕ → ℕ) → ((i : ℕ) → i < k → f i ≡ 1) → sum_below k f ≡ k
 sum_ones zero f ones = refl

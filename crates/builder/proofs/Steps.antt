@@ -8,7 +8,7 @@ use Rattle.graphs.specs.Covers.{Cover}
 use Rattle.sheets.specs.Loads.{Load, task_total, processor_total, loads, places_needed}
 use Rattle.plans.specs.Plans.{is_task, Within}
 use Rattle.plans.specs.Remaining.{graph, marks}
-use Rattle.counting.proofs.Sums.{sum_same, sum_le, sum_changed_at, point_le_sum, sum_le_bound}
+use Rattle.counting.proofs.Sums.{sum_same, sum_le, sum_zero, sum_changed_at, point_le_sum, sum_le_bound}
 use Rattle.plans.proofs.Rows.{hit, used, hit_of, place_of, none_or_some, same_entry}
 use Rattle.plans.proofs.Searching.{test_from_T, T_from_test}
 use Rattle.builder.specs.Building.{MayLast, Longest, laid}
@@ -51,7 +51,7 @@ pub laid_off : (left : Load) (row : Row) (d t p : ℕ) → (at row p ≡ Some t 
 laid_off left row d t p ne = cond-false (is_task t (at row p)) (left.ticks t p - d) (left.ticks t p) (is_task_false t (at row p) ne)
 
 pub laid_le : (left : Load) (row : Row) (d t p : ℕ) → (laid left row d).ticks t p ≤ left.ticks t p
-laid_le left row d t p = elim (cases_entry (at row p) t) [ inl e ↦ omega (arith, laid_at left row d t p e) | inr ne ↦ omega (arith, laid_off left row d t p ne) ]
+laid_le left row d t p = grind (arith, nat_tests)
 
 -- one for a pair with ticks, and one for a line that has slack
 abbrev some_left : ℕ → ℕ
@@ -70,16 +70,16 @@ slack_small : (a f : ℕ) → slack a f ≤ 1
 slack_small a f = grind (arith, nat_tests)
 
 slack_full : (a f : ℕ) → a ≡ f → slack a f ≡ 0
-slack_full a f e = cond-true {A = ℕ} (eqb a f) 0 1 (eq-eqb a f e)
+slack_full a f e = grind (arith, nat_tests)
 
 slack_some : (a f : ℕ) → (a ≡ f → ⊥) → slack a f ≡ 1
-slack_some a f ne = cond-false {A = ℕ} (eqb a f) 0 1 (ne_eqb a f ne)
+slack_some a f ne = grind (arith, nat_tests)
 
 slack_le : (a f b g : ℕ) → (b ≡ g → a ≡ f) → slack a f ≤ slack b g
-slack_le a f b g h = elim (cases_eq b g) [ inl e ↦ omega (arith, slack_full a f (h e)) | inr ne ↦ omega (arith, slack_some b g ne, slack_small a f) ]
+slack_le a f b g h = grind (arith, nat_tests)
 
 slack_lt : (a f b g : ℕ) → (b ≡ g → ⊥) → a ≡ f → slack a f < slack b g
-slack_lt a f b g ne e = omega (arith, slack_full a f e, slack_some b g ne)
+slack_lt a f b g ne e = grind (arith, nat_tests)
 
 -- pairs with ticks, and lines with slack
 abbrev pub potential : Load → ℕ
@@ -93,6 +93,17 @@ potential_small s =
       sum_le_bound s.processors (λ p. slack (processor_total s p) s.frame) (λ p h. slack_small (processor_total s p) s.frame),
     )
 
+-- where there is nothing to do, the frame is laid
+pub nothing_to_do : (s : Load) → 1 ≤ s.processors → potential s ≡ 0 → s.frame ≡ 0
+nothing_to_do s some none =
+    let slack_none = point_le_sum s.processors (λ p. slack (processor_total s p) s.frame) 0 some in
+    let full : processor_total s 0 ≡ s.frame = elim (cases_eq (processor_total s 0) s.frame) [ inl e ↦ e | inr ne ↦ absurd (omega (arith, slack_some (processor_total s 0) s.frame ne)) ] in
+    let no_ticks : (t : ℕ) → t < s.tasks → s.ticks t 0 ≡ 0 = λ t h.
+    let row_le = point_le_sum s.tasks (λ u. sum_below s.processors (λ p. some_left (s.ticks u p))) t h in
+    let pair_le = point_le_sum s.processors (λ p. some_left (s.ticks t p)) 0 some in
+    elim (cases_lt 0 (s.ticks t 0)) [ inl pos ↦ absurd (omega (arith, some_left_lt 0 (s.ticks t 0) refl pos)) | inr le ↦ omega arith ] in
+    omega (arith, sum_zero s.tasks (λ t. s.ticks t 0) no_ticks)
+
 module _ (left : Load) (row : Row) (d : ℕ) (cover : Cover (graph left) (marks left) row) (may : MayLast left row d) where
   task_paired : (t p : ℕ) → at row p ≡ Some t → task_total (laid left row d) t + d ≡ task_total left t
   task_paired t p e =
@@ -101,7 +112,7 @@ module _ (left : Load) (row : Row) (d : ℕ) (cover : Cover (graph left) (marks 
       omega (arith, laid_at left row d t p e, may.pairs p t hp e)
 
   task_unpaired : (t : ℕ) → ((p : ℕ) → p < left.processors → at row p ≡ Some t → ⊥) → task_total (laid left row d) t ≡ task_total left t
-  task_unpaired t none = sum_same left.processors (λ q. (laid left row d).ticks t q) (λ q. left.ticks t q) (λ q l. laid_off left row d t q (none q l))
+  task_unpaired t none = sum_same left.processors _ _ (λ q l. laid_off left row d t q (none q l))
 
   processor_paired : (t p : ℕ) → at row p ≡ Some t → processor_total (laid left row d) p + d ≡ processor_total left p
   processor_paired t p e =
@@ -109,7 +120,7 @@ module _ (left : Load) (row : Row) (d : ℕ) (cover : Cover (graph left) (marks 
       omega (arith, laid_at left row d t p e, may.pairs p t (cover.edges p t e).1 e)
 
   processor_unpaired : (p : ℕ) → at row p ≡ None → processor_total (laid left row d) p ≡ processor_total left p
-  processor_unpaired p none = sum_same left.tasks (λ u. (laid left row d).ticks u p) (λ u. left.ticks u p) (λ u l. laid_off left row d u p (none_or_some (at row p) u none))
+  processor_unpaired p none = sum_same left.tasks _ _ (λ u l. laid_off left row d u p (none_or_some (at row p) u none))
 
   pub within_laid : Within left → Within (laid left row d)
   within_laid within =
@@ -128,41 +139,35 @@ module _ (left : Load) (row : Row) (d : ℕ) (cover : Cover (graph left) (marks 
   pairs_le t p = some_left_le ((laid left row d).ticks t p) (left.ticks t p) (laid_le left row d t p)
 
   loads_le : loads (laid left row d) ≤ loads left
-  loads_le = sum_le left.tasks (λ t. sum_below left.processors (λ p. some_left ((laid left row d).ticks t p))) (λ t. sum_below left.processors (λ p. some_left (left.ticks t p)))
-      (λ t h. sum_le left.processors (λ p. some_left ((laid left row d).ticks t p)) (λ p. some_left (left.ticks t p)) (λ p l. pairs_le t p))
+  loads_le = sum_le left.tasks _ _ (λ t h. sum_le left.processors _ _ (λ p l. pairs_le t p))
 
   loads_lt : (p t : ℕ) → at row p ≡ Some t → 0 < d → left.ticks t p ≡ d → loads (laid left row d) < loads left
-  loads_lt p t e pos tight = sum_lt left.tasks (λ t. sum_below left.processors (λ p. some_left ((laid left row d).ticks t p))) (λ t. sum_below left.processors (λ p. some_left (left.ticks t p)))
-      (λ t h. sum_le left.processors (λ p. some_left ((laid left row d).ticks t p)) (λ p. some_left (left.ticks t p)) (λ p l. pairs_le t p))
-      t (cover.edges p t e).0
-      (sum_lt left.processors (λ p. some_left ((laid left row d).ticks t p)) (λ p. some_left (left.ticks t p)) (λ p l. pairs_le t p) p (cover.edges p t e).1
-      (some_left_lt ((laid left row d).ticks t p) (left.ticks t p) (omega (arith, laid_at left row d t p e)) (omega arith)))
+  loads_lt p t e pos tight = sum_lt left.tasks _ _ (λ t h. sum_le left.processors _ _ (λ p l. pairs_le t p)) t (cover.edges p t e).0
+      (sum_lt left.processors _ _ (λ p l. pairs_le t p) p (cover.edges p t e).1 (some_left_lt ((laid left row d).ticks t p) (left.ticks t p) (omega (arith, laid_at left row d t p e)) (omega arith)))
 
   task_slack_le : (t : ℕ) → t < left.tasks → slack (task_total (laid left row d) t) (left.frame - d) ≤ slack (task_total left t) left.frame
-  task_slack_le t h = slack_le (task_total (laid left row d) t) (left.frame - d) (task_total left t) left.frame (λ full.
+  task_slack_le t h = slack_le _ _ _ _ (λ full.
       let (p, e) = cover.tasks t h (T_from_test (eqb (task_total left t) left.frame) (eq-eqb (task_total left t) left.frame full)) in
       omega (arith, task_paired t p e))
 
   processor_slack_le : (p : ℕ) → p < left.processors → slack (processor_total (laid left row d) p) (left.frame - d) ≤ slack (processor_total left p) left.frame
-  processor_slack_le p h = slack_le (processor_total (laid left row d) p) (left.frame - d) (processor_total left p) left.frame (λ full.
+  processor_slack_le p h = slack_le _ _ _ _ (λ full.
       let (t, e) = cover.processors p h (T_from_test (eqb (processor_total left p) left.frame) (eq-eqb (processor_total left p) left.frame full)) in
       omega (arith, processor_paired t p e))
 
   task_slacks_le : sum_below left.tasks (λ t. slack (task_total (laid left row d) t) (left.frame - d)) ≤ sum_below left.tasks (λ t. slack (task_total left t) left.frame)
-  task_slacks_le = sum_le left.tasks (λ t. slack (task_total (laid left row d) t) (left.frame - d)) (λ t. slack (task_total left t) left.frame) task_slack_le
+  task_slacks_le = sum_le left.tasks _ _ task_slack_le
 
   processor_slacks_le : sum_below left.processors (λ p. slack (processor_total (laid left row d) p) (left.frame - d)) ≤ sum_below left.processors (λ p. slack (processor_total left p) left.frame)
-  processor_slacks_le = sum_le left.processors (λ p. slack (processor_total (laid left row d) p) (left.frame - d)) (λ p. slack (processor_total left p) left.frame) processor_slack_le
+  processor_slacks_le = sum_le left.processors _ _ processor_slack_le
 
   task_slacks_lt : (t : ℕ) → t < left.tasks → ((p : ℕ) → p < left.processors → at row p ≡ Some t → ⊥) → 0 < d → d + task_total left t ≡ left.frame →
       sum_below left.tasks (λ t. slack (task_total (laid left row d) t) (left.frame - d)) < sum_below left.tasks (λ t. slack (task_total left t) left.frame)
-  task_slacks_lt t h none pos tight = sum_lt left.tasks (λ t. slack (task_total (laid left row d) t) (left.frame - d)) (λ t. slack (task_total left t) left.frame) task_slack_le t h
-      (slack_lt (task_total (laid left row d) t) (left.frame - d) (task_total left t) left.frame (λ e. omega arith) (omega (arith, task_unpaired t none)))
+  task_slacks_lt t h none pos tight = sum_lt left.tasks _ _ task_slack_le t h (slack_lt _ _ _ _ (λ e. omega arith) (omega (arith, task_unpaired t none)))
 
   processor_slacks_lt : (p : ℕ) → p < left.processors → at row p ≡ None → 0 < d → d + processor_total left p ≡ left.frame →
       sum_below left.processors (λ p. slack (processor_total (laid left row d) p) (left.frame - d)) < sum_below left.processors (λ p. slack (processor_total left p) left.frame)
-  processor_slacks_lt p h none pos tight = sum_lt left.processors (λ p. slack (processor_total (laid left row d) p) (left.frame - d)) (λ p. slack (processor_total left p) left.frame) processor_slack_le p h
-      (slack_lt (processor_total (laid left row d) p) (left.frame - d) (processor_total left p) left.frame (λ e. omega arith) (omega (arith, processor_unpaired p none)))
+  processor_slacks_lt p h none pos tight = sum_lt left.processors _ _ processor_slack_le p h (slack_lt _ _ _ _ (λ e. omega arith) (omega (arith, processor_unpaired p none)))
 
 -- the row may last one tick
 one_tick : (left : Load) (row : Row) → Cover (graph left) (marks left) row → Within left → MayLast left row 1

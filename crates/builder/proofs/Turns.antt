@@ -1,9 +1,9 @@
 -- The turns of the loop that lays slots, and what a build answers.
-use Rattle.std.proofs.Common.{◌≡◌, ℕ, ◌+◌, ◌<◌, ◌≤◌, Bool, List, length, take, drop, set, Ok, Err, Result, sym, refl, ap, ◌∙◌, subst, inl, inr, arith, length-set}
-use Rattle.std.proofs.lemmas.Bool.{cases_Bool}
+use Rattle.std.proofs.Common.{◌≡◌, ℕ, ◌+◌, ◌<◌, ◌≤◌, List, length, take, drop, set, None, Ok, Err, Result, MatchResult, sym, refl, ap, ◌∙◌, subst, arith, length-set}
+use Rattle.std.specs.Result.{IsErrAnd}
 use Rattle.std.proofs.lemmas.List.{length-take-le, take_more_set, drop-drop, drop-set-lt}
 use Rattle.graphs.specs.Graphs.{Row}
-use Rattle.graphs.specs.Covers.{Marking, all_idle}
+use Rattle.graphs.specs.Covers.{Marking, Cover, all_idle}
 use Rattle.sheets.specs.Loads.{Load, places_needed}
 use Rattle.plans.specs.Plans.{Plannable, Within}
 use Rattle.plans.specs.Remaining.{graph, marks}
@@ -12,23 +12,22 @@ use Rattle.plans.proofs.Plannable.{within_if_plannable}
 use Rattle.builder.specs.declared.slots.Slot.{Slot}
 use Rattle.builder.specs.declared.lines.Line.{Line}
 use Rattle.builder.specs.declared.lines.Line.TheVariants.{Task, Processor}
+use Rattle.builder.specs.declared.left.Left.{Left}
+use Rattle.builder.specs.Lefts.{left_of}
 use Rattle.builder.specs.Building.{laid, Next, read}
-use Rattle.pairings.specs.Rules.{Rule, Answers}
+use Rattle.pairings.specs.Rules.{Rule, Chooses}
 use Rattle.builder.specs.Lines.{Over}
 use Rattle.builder.specs.Answers.{LaidOut, BuildAnswer, Exact}
 use Rattle.builder.specs.declared.refusals.BuildRefusal.{BuildRefusal}
 use Rattle.builder.specs.declared.refusals.BuildRefusal.TheVariants.{NoPlan, NoRoom}
-use Rattle.builder.proofs.Steps.{potential_small, lasts, within_frame}
-use Rattle.builder.proofs.Reaching.{Reaches, here, one_more, built, within_left, count_left, room_left, planned}
+use Rattle.builder.proofs.Steps.{potential_small, nothing_to_do}
+use Rattle.builder.proofs.Reaching.{Reaches, here, one_more, built, count_left, planned}
 
--- a rule asked about a load within its frame admits its row
-pub admitted_row : (admits : Rule) (s : Load) (m : Marking) (before row : Row) (covered : Bool) → s.processors ≤ 16 → Within s → 0 < s.frame → m ≡ marks s → Answers admits (graph s) m before covered row → admits (graph s) (marks s) before row
-admitted_row admits s m before row covered few within more same answers =
-    let answers' : Answers admits (graph s) (marks s) before covered row = subst (λ (k : Marking). Answers admits (graph s) k before covered row) same answers in
-    elim (cases_Bool covered) [
-      | inl says ↦ answers'.admitted says
-      | inr denies ↦ let (other, cover) = loads_covered s few within more in absurd (answers'.none denies other cover)
-    ]
+-- a rule asked about a load within its frame chooses
+pub chooses_some : (admits : Rule) (s : Load) (m : Marking) (before : Row) → s.processors ≤ 16 → Within s → 0 < s.frame → m ≡ marks s → Chooses admits (graph s) m before None → ⊥
+chooses_some admits s m before few within more same none =
+    let (other, cover) = loads_covered s few within more in
+    none other (subst (λ (k : Marking). Cover (graph s) k other) (sym same) cover)
 
 -- slots laid so far in a room, and what they leave
 pub record SoFar (admits : Rule) (s : Load) (room room' : List Slot) (left : Load) (last : Row) (count : ℕ) : Type 0 where
@@ -40,15 +39,8 @@ pub begun : (admits : Rule) (s : Load) (room : List Slot) → SoFar admits s roo
 begun admits s room = record { reaches = here; near = omega arith; rest = refl }
 
 module _ {admits : Rule} {s : Load} {room room' : List Slot} {left : Load} {last : Row} {count : ℕ} (within : Within s) (far : SoFar admits s room room' left last count) where
-  pub still_within : Within left
-  still_within = within_left far.reaches within
-
-  pub has_place : places_needed s ≤ length room' → (slot : Slot) → Next admits left last slot → count < length room'
-  has_place places slot next = omega (arith, room_left far.reaches within slot next, length-take-le count room' far.near)
-
-  pub one_turn : places_needed s ≤ length room' → (slot : Slot) → Next admits left last slot → (left' : Load) → left' ≡ laid left slot.row slot.ticks → SoFar admits s room (set room' count slot) left' slot.row (count + 1)
-  one_turn places slot next left' same =
-      let place : count < length room' = has_place places slot next in
+  pub one_turn : count < length room' → (slot : Slot) → Next admits left last slot → (left' : Load) → left' ≡ laid left slot.row slot.ticks → SoFar admits s room (set room' count slot) left' slot.row (count + 1)
+  one_turn place slot next left' same =
       record {
         reaches =
             subst (λ (l : Load). Reaches admits s all_idle (take (count + 1) (set room' count slot)) l slot.row) (sym same)
@@ -56,9 +48,6 @@ module _ {admits : Rule} {s : Load} {room room' : List Slot} {left : Load} {last
         near = omega (arith, length-set room' count slot);
         rest = drop-set-lt (count + 1) room' count slot (omega arith) ∙ sym (drop-drop 1 count room') ∙ ap (drop 1) far.rest ∙ drop-drop 1 count room;
       }
-
-  pub turn_falls : (slot : Slot) → Next admits left last slot → (slot.ticks ≤ left.frame) × (0 < slot.ticks)
-  turn_falls slot next = (within_frame left slot.row slot.ticks next.cover still_within next.longest, lasts left slot.row slot.ticks next.cover still_within next.longest)
 
   pub ended : left.frame ≡ 0 → LaidOut admits s room room' count
   ended done =
@@ -70,6 +59,26 @@ module _ {admits : Rule} {s : Load} {room room' : List Slot} {left : Load} {last
         rest = far.rest;
       }
 
+  -- a room that is laid full was enough
+  pub full_room : places_needed s ≤ count → 1 ≤ left.processors → LaidOut admits s room room' count
+  full_room enough some = ended (nothing_to_do left some (omega (arith, count_left far.reaches within, potential_small s, length-take-le count room' far.near)))
+
+-- what a sheet's load answers, read through a change of the error
+pub taken : (s : Load) (of : Result Left Line) (mapped : Result Left BuildRefusal) (P : Line → BuildRefusal → Type 0) →
+    MatchResult of (λ left. left_of left ≡ s) (λ line. Over s line) → MatchResult of (λ left. mapped ≡ Ok left) (λ line. IsErrAnd mapped (P line)) → (left : Left) → mapped ≡ Ok left → left_of left ≡ s
+taken s (Ok own) mapped P is same left e = let told : own ≡ left = cc in ap left_of (sym told) ∙ is
+taken s (Err line) mapped P over refused left e = absurd (subst (λ m. IsErrAnd m (P line)) e refused)
+
+pub refused_line : (s : Load) (of : Result Left Line) (mapped : Result Left BuildRefusal) (P : Line → BuildRefusal → Type 0) →
+    MatchResult of (λ left. left_of left ≡ s) (λ line. Over s line) → MatchResult of (λ left. mapped ≡ Ok left) (λ line. IsErrAnd mapped (P line)) →
+    ((line : Line) (e : BuildRefusal) → P line e → e ≡ NoPlan line) → (e : BuildRefusal) → mapped ≡ Err e → (line : Line) × (e ≡ NoPlan line) × Over s line
+refused_line s (Ok own) mapped P is same gives e was = absurd (let told = sym same ∙ was in cc)
+refused_line s (Err line) mapped P over refused gives e was = (line, gives line e (subst (λ m. IsErrAnd m (P line)) was refused), over)
+
+pub same_error : {T E : Type 0} (r : Result T E) (e : E) (P : E → Type 0) → ((x : E) → P x → x ≡ e) → IsErrAnd r P → r ≡ Err e
+same_error (Ok x) e P gives h = absurd h
+same_error (Err x) e P gives h = ap Err (gives x h)
+
 pub over_not_within : (s : Load) (line : Line) → Over s line → Within s → ⊥
 over_not_within s (Task t) over within = omega (arith, over.1, within.tasks t over.0)
 over_not_within s (Processor p) over within = omega (arith, over.1.1, within.processors p over.1.0)
@@ -77,29 +86,22 @@ over_not_within s (Processor p) over within = omega (arith, over.1.1, within.pro
 pub over_not_plannable : (s : Load) (line : Line) → Over s line → Plannable s → ⊥
 over_not_plannable s line over plan = over_not_within s line over (within_if_plannable s plan)
 
--- the answers are told apart
-ok_or_err : (r : Result ℕ BuildRefusal) (count : ℕ) (e : BuildRefusal) → r ≡ Ok count → r ≡ Err e → ⊥
-ok_or_err r count e a b = let z : ◌≡◌ {A = ℕ} 0 1 = cc in omega arith
-
-plan_or_room : (r : Result ℕ BuildRefusal) (line : Line) → r ≡ Err (NoPlan line) → r ≡ Err NoRoom → ⊥
-plan_or_room r line a b = let z : ◌≡◌ {A = ℕ} 0 1 = cc in omega arith
-
 pub exact : (admits : Rule) (s : Load) (room room' : List Slot) (answer : Result ℕ BuildRefusal) → BuildAnswer admits s room room' answer → Exact s room answer
 exact admits s room room' (Ok count) (places, out) =
     record {
-      refuses = (λ h. absurd (ok_or_err (Ok count) count (NoPlan h.0) refl h.1), λ no'. absurd (no' (read (take count room'), out.plan)));
-      lacks = (λ e. absurd (ok_or_err (Ok count) count NoRoom refl e), λ h. absurd (omega (arith, h.1)));
+      refuses = (λ h. let told = h.1 in cc, λ no'. absurd (no' (read (take count room'), out.plan)));
+      lacks = (λ e. cc, λ h. absurd (omega (arith, h.1)));
       serves = (λ _. ((read (take count room'), out.plan), places), λ _. (count, refl));
     }
 exact admits s room room' (Err (NoPlan line)) (over, none, same) =
     record {
       refuses = (λ _. none, λ _. (line, refl));
-      lacks = (λ e. absurd (plan_or_room (Err (NoPlan line)) line refl e), λ h. absurd (none h.0));
-      serves = (λ h. absurd (ok_or_err (Err (NoPlan line)) h.0 (NoPlan line) h.1 refl), λ h. absurd (none h.0));
+      lacks = (λ e. cc, λ h. absurd (none h.0));
+      serves = (λ h. let told = h.1 in cc, λ h. absurd (none h.0));
     }
 exact admits s room room' (Err NoRoom) (plan, short, same) =
     record {
-      refuses = (λ h. absurd (plan_or_room (Err NoRoom) h.0 h.1 refl), λ none. absurd (none plan));
+      refuses = (λ h. let told = h.1 in cc, λ none. absurd (none plan));
       lacks = (λ _. (plan, short), λ _. refl);
-      serves = (λ h. absurd (ok_or_err (Err NoRoom) h.0 NoRoom h.1 refl), λ h. absurd (omega (arith, h.1)));
+      serves = (λ h. let told = h.1 in cc, λ h. absurd (omega (arith, h.1)));
     }

@@ -1,5 +1,4 @@
-ghost use Rattle.std.specs.Prelude.{◌≡◌, ◌<◌, ◌≤◌, length};
-ghost use Rattle.plans.specs.Plans.{Within};
+ghost use Rattle.std.specs.Prelude.{◌≡◌, ◌≤◌, MatchOption, length};
 ghost use Rattle.preferences.specs.Numbers.{first_by_number};
 ghost use Rattle.sheets.specs.Loads.{places_needed};
 ghost use Rattle.sheets.specs.Sheets.{load_of};
@@ -7,45 +6,46 @@ ghost use Rattle.builder.specs.Answers.{LaidOut, BuildAnswer, Exact};
 ghost use Rattle.builder.specs.Building.{Next};
 ghost use Rattle.builder.specs.Lefts.{left_of};
 
-use crate::left::Left;
+use crate::left::{Laying, Left};
 use crate::refusals::BuildRefusal;
 use crate::slots::Slot;
 use pairings::{Pairing, PairingRule};
 use preferences::{ByNumber, FirstRule};
 use sheets::Sheet;
 
-// The slot that the rule gives after a pairing, which it replaces.
-fn next_slot<R: PairingRule>(left: &Left, rule: &R, pairing: &mut Pairing) -> Slot
-    requires more { 0 < left.now.frame }
-    requires within { Within (left_of left.now) }
-    ensures next { Next (R.PairingRule.admits rule.now) (left_of left.now) pairing.old.row result }
-    ensures last { pairing.new.row ≡ result.row }
+// The slot that the rule gives after a pairing, which it replaces; none once the frame is laid.
+fn next_slot<R: PairingRule>(left: &Left, rule: &R, pairing: &mut Pairing) -> Option<Slot>
+    ensures { MatchOption result ((left_of left.now).frame ≡ 0) (λ slot. Next (R.PairingRule.admits rule.now) (left_of left.now) pairing.old.row slot × (pairing.new.row ≡ slot.row)) }
 {
-    let before = *pairing;
+    if left.work.frame == 0 {
+        return None;
+    }
     let marks = left.marks();
-    // While the lines fit what is left of the frame, there is always a cover.
-    let _covered = rule.pair(left, &marks, &before, pairing);
+    let Some(next) = rule.choose(&left.work, &marks, pairing) else {
+        // While the lines fit what is left of the frame, there is always a cover.
+        unreachable!()
+    };
+    *pairing = next;
     let row = pairing.row();
-    let ticks = left.longest(&row);
-    Slot { ticks, row }
+    let ticks = Laying { left, row: &row }.longest();
+    Some(Slot { ticks, row })
 }
 
 // Lays all of what is left into the room, and says how many slots that took.
 fn lay<R: PairingRule>(all: Left, rule: &R, room: &mut [Slot]) -> usize
-    requires within { Within (left_of all) }
-    requires places { places_needed (left_of all) ≤ length room.old }
+    requires { places_needed (left_of all) ≤ length room.old }
     ensures { LaidOut (R.PairingRule.admits rule.now) (left_of all) room.old room.new result }
 {
     let mut left = all;
     let mut pairing = Pairing::idle();
-    let mut count = 0;
-    while left.frame > 0 {
-        let slot = next_slot(&left, rule, &mut pairing);
+    for (count, place) in room.iter_mut().enumerate() {
+        let Some(slot) = next_slot(&left, rule, &mut pairing) else {
+            return count;
+        };
         left.subtract(&slot.row, slot.ticks);
-        room[count] = slot;
-        count += 1;
+        *place = slot;
     }
-    count
+    room.len()
 }
 
 /// Writes slots that plan the sheet's load into the first places of the room, and says how many. A refusal leaves the room as it was.
@@ -57,11 +57,8 @@ pub fn build<R: PairingRule>(
     ensures answer { BuildAnswer (R.PairingRule.admits rule.now) (load_of sheet.now) room.old room.new result }
     ensures exact { Exact (load_of sheet.now) room.old result }
 {
-    let left = Left::of(sheet);
-    if let Some(line) = left.first_over() {
-        return Err(BuildRefusal::NoPlan(line));
-    }
-    if room.len() < left.places_needed() {
+    let left = Left::of(sheet).map_err(BuildRefusal::NoPlan)?;
+    if room.len() < left.work.places_needed() {
         return Err(BuildRefusal::NoRoom);
     }
     Ok(lay(left, rule, room))

@@ -1,23 +1,18 @@
-ghost use Rattle.std.specs.Prelude.{◌≡◌, ℕ, ◌≤◌};
-ghost use Rattle.sheets.specs.Cells.{cell};
+ghost use Rattle.plans.specs.Plans.{Within};
+ghost use Rattle.builder.specs.Reading.{load_from};
 
-// What is left to lay of a sheet; its frame is the ticks not yet laid.
+use crate::work::Work;
+
+// What is left to lay of a sheet: every line fits what is left of the frame.
 #[derive(Clone, Copy)]
 pub(crate) struct Left {
-    pub(crate) tasks: usize,
-    pub(crate) processors: usize,
-    pub(crate) frame: u32,
-    pub(crate) ticks: [[u32; 16]; 64],
-    ghost few: { tasks ≤ 64 },
-    ghost manned: { 1 ≤ processors },
-    ghost fewer: { processors ≤ 16 },
-    ghost below: { (t p : ℕ) → tasks ≤ t → cell ticks t p ≡ 0 },
-    ghost beside: { (t p : ℕ) → processors ≤ p → cell ticks t p ≡ 0 },
+    pub(crate) work: Work,
+    ghost within: { Within (load_from work.tasks work.processors work.frame work.ticks) },
 }
 
-mod edges;
+mod checking;
 mod lasting;
 mod laying;
 mod marking;
-mod scans;
-mod totals;
+
+pub(crate) use lasting::Laying;

@@ -12,6 +12,7 @@ pub enum BuildRefusal {
     NoRoom,
 }
 
+// A method and no `From<..> for u8`, since its name says what the number is.
 impl BuildRefusal {
     /// The number that a refusal is known by.
     pub fn number(self) -> u8

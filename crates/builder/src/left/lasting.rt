@@ -1,80 +1,51 @@
-ghost use Rattle.std.specs.Prelude.{◌≡◌, ℕ, ◌<◌, ◌≤◌, true, false, Some, ◌≢◌};
+ghost use Rattle.std.specs.Prelude.{◌≡◌, ℕ, ◌<◌, Some};
 ghost use Rattle.graphs.specs.Graphs.{at};
-ghost use Rattle.graphs.specs.Covers.{Cover};
-ghost use Rattle.plans.specs.Plans.{Within};
-ghost use Rattle.plans.specs.Remaining.{graph, marks};
 ghost use Rattle.builder.specs.Building.{Longest};
-ghost use Rattle.builder.specs.Lasting.{ProcessorLasts, TaskLasts, Least};
+ghost use Rattle.builder.specs.Lasting.{holder, lasting};
 ghost use Rattle.builder.specs.Lefts.{left_of};
+ghost use Rattle.builder.specs.Reading.{across};
 
+use crate::axes::Lines;
 use crate::left::Left;
 
-// Whether the row gives the task to one of the first processors.
-fn names(row: &[Option<u8>; 16], processors: usize, task: usize) -> bool
-    requires { processors ≤ 16 }
-    ensures found { result ≡ true → (p : ℕ) × (p < processors) × (at row.now p ≡ Some task) }
-    ensures none { result ≡ false → (p : ℕ) → p < processors → at row.now p ≢ Some task }
+// The processor that the row pairs with the task.
+fn processor_of(row: &[Option<u8>; 16], task: usize) -> Option<usize>
+    ensures { result ≡ holder row.now task }
 {
-    for processor in 0..processors {
-        if let Some(named) = row[processor] {
-            if named as usize == task {
-                return true;
-            }
-        }
-    }
-    false
+    row.iter().position(|named| named.is_some_and(|named| usize::from(named) == task))
 }
 
-impl Left {
-    // The ticks of the pair, or the slack of an idle processor.
-    fn processor_lasts(&self, row: &[Option<u8>; 16], processor: usize) -> u32
-        requires near { processor < self.now.processors }
-        requires within { Within (left_of self.now) }
-        requires cover { Cover (graph (left_of self.now)) (marks (left_of self.now)) row.now }
-        ensures { ProcessorLasts (left_of self.now) row.now processor result }
+// A row of what is left, about to be laid.
+#[derive(Clone, Copy)]
+pub(crate) struct Laying<'a> {
+    pub(crate) left: &'a Left,
+    pub(crate) row: &'a [Option<u8>; 16],
+    ghost pairs: { (p t : ℕ) → at row.now p ≡ Some t → (t < (left_of left.now).tasks) × (p < (left_of left.now).processors) },
+}
+
+impl<'a> Laying<'a> {
+    fn task_lasts(&self, task: usize) -> u32
+        requires { task < (left_of self.now.left.now).tasks }
+        ensures { result ≡ lasting (left_of self.now.left.now) task (holder self.now.row.now task) }
     {
-        match row[processor] {
-            Some(task) => self.ticks[task as usize][processor],
-            None => self.frame - self.processor_total(processor) as u32,
-        }
+        self.left.work.lasts(task, processor_of(self.row, task))
     }
 
-    // The slack of a task that is not in the row.
-    fn task_lasts(&self, row: &[Option<u8>; 16], task: usize) -> u32
-        requires near { task < self.now.tasks }
-        requires within { Within (left_of self.now) }
-        requires cover { Cover (graph (left_of self.now)) (marks (left_of self.now)) row.now }
-        ensures { TaskLasts (left_of self.now) row.now task result }
+    fn processor_lasts(&self, processor: usize) -> u32
+        requires { processor < (left_of self.now.left.now).processors }
+        ensures { result ≡ lasting (across (left_of self.now.left.now)) processor (at self.now.row.now processor) }
     {
-        if names(row, self.processors, task) {
-            self.frame
-        } else {
-            self.frame - self.task_total(task) as u32
-        }
-    }
-
-    fn processors_last(&self, row: &[Option<u8>; 16]) -> u32
-        requires within { Within (left_of self.now) }
-        requires cover { Cover (graph (left_of self.now)) (marks (left_of self.now)) row.now }
-        ensures { Least (left_of self.now) row.now self.now.processors 0 result }
-    {
-        let mut least = self.frame;
-        for processor in 0..self.processors {
-            least = least.min(self.processor_lasts(row, processor));
-        }
-        least
+        let across = self.left.work.across();
+        across.lasts(processor, self.row[processor].map(usize::from))
     }
 
     // The longest time that the row may last.
-    pub(crate) fn longest(&self, row: &[Option<u8>; 16]) -> u32
-        requires within { Within (left_of self.now) }
-        requires cover { Cover (graph (left_of self.now)) (marks (left_of self.now)) row.now }
-        ensures { Longest (left_of self.now) row.now result }
+    pub(crate) fn longest(&self) -> u32
+        ensures { Longest (left_of self.now.left.now) self.now.row.now result }
     {
-        let mut least = self.processors_last(row);
-        for task in 0..self.tasks {
-            least = least.min(self.task_lasts(row, task));
-        }
-        least
+        let work = &self.left.work;
+        let tasks = (0..work.tasks).map(|task| self.task_lasts(task));
+        let processors = (0..work.processors).map(|processor| self.processor_lasts(processor));
+        tasks.chain(processors).fold(work.frame, u32::min)
     }
 }

@@ -10,14 +10,13 @@ ghost use Rattle.builder.specs.Lefts.{left_of};
 use crate::left::Left;
 
 // Takes the ticks of a slot from each pair of its row.
-fn take_ticks(lines: &mut [[u32; 16]; 64], row: &[Option<u8>; 16], processors: usize, ticks: u32)
-    requires few { processors ≤ 16 }
-    requires pairs { (p t : ℕ) → p < processors → at row.now p ≡ Some t → (t < 64) × (ticks ≤ cell lines.old t p) }
-    ensures { Taken lines.old lines.new row.now processors ticks }
+fn take_ticks(lines: &mut [[u32; 16]; 64], row: &[Option<u8>; 16], ticks: u32)
+    requires { (p t : ℕ) → at row.now p ≡ Some t → (t < 64) × (ticks ≤ cell lines.old t p) }
+    ensures { Taken lines.old lines.new row.now 16 ticks }
 {
-    for processor in 0..processors {
-        if let Some(task) = row[processor] {
-            let line = &mut lines[task as usize];
+    for (processor, named) in row.iter().enumerate() {
+        if let Some(task) = *named {
+            let line = &mut lines[usize::from(task)];
             line[processor] -= ticks;
         }
     }
@@ -26,12 +25,12 @@ fn take_ticks(lines: &mut [[u32; 16]; 64], row: &[Option<u8>; 16], processors: u
 impl Left {
     // Lays the row for some ticks.
     pub(crate) fn subtract(&mut self, row: &[Option<u8>; 16], ticks: u32)
-        requires near { ticks ≤ self.old.frame }
+        requires near { ticks ≤ (left_of self.old).frame }
         requires may { MayLast (left_of self.old) row.now ticks }
         requires cover { Cover (graph (left_of self.old)) (marks (left_of self.old)) row.now }
         ensures { left_of self.new ≡ laid (left_of self.old) row.now ticks }
     {
-        take_ticks(&mut self.ticks, row, self.processors, ticks);
-        self.frame -= ticks;
+        take_ticks(&mut self.work.ticks, row, ticks);
+        self.work.frame -= ticks;
     }
 }

@@ -1,42 +1,31 @@
-ghost use Rattle.std.specs.Prelude.{◌≡◌, ℕ, ◌<◌, false, slice_index_or};
+ghost use Rattle.std.specs.Prelude.{◌≡◌, ℕ, ◌<◌, ◌≤◌, false, slice_index_or};
 ghost use Rattle.pairings.specs.Rules.{marking};
 ghost use Rattle.plans.specs.Remaining.{marks};
 ghost use Rattle.builder.specs.Lefts.{left_of};
 
+use crate::axes::Lines;
 use crate::left::Left;
 use pairings::Marks;
+use std::array;
+
+// The lines that have no slack.
+fn without_slack<L: Lines, const N: usize>(lines: &L) -> [bool; N]
+    requires more { 0 < (L.load lines.now).frame }
+    requires fits { (L.load lines.now).tasks ≤ N }
+    ensures { (line : ℕ) → slice_index_or result line false ≡ (marks (L.load lines.now)).urgent line }
+{
+    array::from_fn(|line| line < lines.lines() && lines.total(line) == u64::from(lines.frame()))
+}
 
 impl Left {
-    fn urgent(&self) -> [bool; 64]
-        requires { 0 < self.now.frame }
-        ensures { (t : ℕ) → slice_index_or result t false ≡ (marks (left_of self.now)).urgent t }
-    {
-        let mut urgent = [false; 64];
-        for task in 0..self.tasks {
-            urgent[task] = self.task_total(task) == self.frame as u64;
-        }
-        urgent
-    }
-
-    fn full(&self) -> [bool; 16]
-        requires { 0 < self.now.frame }
-        ensures { (p : ℕ) → slice_index_or result p false ≡ (marks (left_of self.now)).full p }
-    {
-        let mut full = [false; 16];
-        for processor in 0..self.processors {
-            full[processor] = self.processor_total(processor) == self.frame as u64;
-        }
-        full
-    }
-
-    // The lines without slack.
+    // The urgent tasks, and the full processors.
     pub(crate) fn marks(&self) -> Marks
-        requires { 0 < self.now.frame }
+        requires { 0 < self.now.work.frame }
         ensures { marking result ≡ marks (left_of self.now) }
     {
         Marks {
-            urgent: self.urgent(),
-            full: self.full(),
+            urgent: without_slack(&self.work),
+            full: without_slack(&self.work.across()),
         }
     }
 }

@@ -1,39 +1,33 @@
-use Rattle.std.proofs.Common.{◌+◌, ◌<◌, length, set, sym, ap, subst, arith, rules}
+use Rattle.std.proofs.Common.{◌≡◌, ℕ, ◌+◌, List, length, set, sym, subst, arith}
+use Rattle.std.proofs.lemmas.List.{set-get_or}
 use Rattle.graphs.specs.Graphs.{Row}
-use Rattle.sheets.specs.Loads.{Load}
+use Rattle.builder.specs.declared.slots.Slot.{Slot}
+use Rattle.builder.specs.Answers.{LaidOut}
 use Rattle.builder.specs.Lefts.{left_of}
-use Rattle.builder.proofs.Turns.{SoFar, begun, still_within, has_place, one_turn, turn_falls, ended}
+use Rattle.builder.proofs.Steps.{within_frame}
+use Rattle.builder.proofs.Turns.{SoFar, begun, one_turn, ended, full_room}
 use Rattle.builder.proofs.building.lay.Goals as goal
 
-pub loop-left-init : goal.loop-left-init
-loop-left-init g c =
+pub loop-count-init : goal.loop-count-init
+loop-count-init g c =
     let admits = g.R.PairingRule.admits c.args.rule.now in
     subst (λ (row : Row). SoFar admits (left_of c.args.all) c.args.room.now c.args.room.now (left_of c.args.all) row 0) (sym c.idle-pairing.ensures) (begun admits (left_of c.args.all) c.args.room.now)
 
-pub next_slot-slot-requires : goal.next_slot-slot-requires
-next_slot-slot-requires g c = record { more = c.loop-left-test.true; within = still_within c.requires.within c.loop-left.invariant }
+pub returns-in_default : goal.returns-in_default
+returns-in_default g c = subst (λ (slots : List Slot). LaidOut (g.R.PairingRule.admits c.args.rule.now) (left_of c.args.all) c.args.room.now slots c.loop-count.count) (sym (set-get_or c.loop-count.room c.loop-count.count _)) (ended c.args.all.within c.loop-count.invariant c.in_default.ensures)
 
-pub subtract-requires : goal.subtract-requires
-subtract-requires g c = record { near = (turn_falls c.requires.within c.loop-left.invariant c.next_slot-slot.result c.next_slot-slot.ensures.next).0; may = c.next_slot-slot.ensures.next.longest.may; cover = c.next_slot-slot.ensures.next.cover }
+pub subtract-requires-clause-near : goal.subtract-requires-clause-near
+subtract-requires-clause-near g c = let next = c.in-Some.ensures.0 in within_frame (left_of c.loop-count.left) c.in-Some.slot.row c.in-Some.slot.ticks next.cover c.loop-count.left.within next.longest
 
-pub offset_bounds-room-count : goal.offset_bounds-room-count
-offset_bounds-room-count g c = let place : c.loop-left.count < length c.loop-left.room = has_place c.requires.within c.loop-left.invariant (omega (arith, c.requires.places, c.loop-left.auto.room)) c.next_slot-slot.result c.next_slot-slot.ensures.next in search rules
-
-pub bounds-room-count : goal.bounds-room-count
-bounds-room-count g c = has_place c.requires.within c.loop-left.invariant (omega (arith, c.requires.places, c.loop-left.auto.room)) c.next_slot-slot.result c.next_slot-slot.ensures.next
-
-pub overflow_add-count : goal.overflow_add-count
-overflow_add-count g c = let place : c.loop-left.count < length c.loop-left.room = has_place c.requires.within c.loop-left.invariant (omega (arith, c.requires.places, c.loop-left.auto.room)) c.next_slot-slot.result c.next_slot-slot.ensures.next in search rules
-
-pub loop-left-smaller : goal.loop-left-smaller
-loop-left-smaller g c = omega (arith, turn_falls c.requires.within c.loop-left.invariant c.next_slot-slot.result c.next_slot-slot.ensures.next, ap (λ (s : Load). s.frame) c.subtract.ensures)
-
-pub loop-left-preserved : goal.loop-left-preserved
-loop-left-preserved g c =
-    let slot = c.next_slot-slot.result in
+pub loop-count-preserved : goal.loop-count-preserved
+loop-count-preserved g c =
+    let slot = c.in-Some.slot in
     let after = left_of c.subtract.new.self in
-    subst (λ (row : Row). SoFar (g.R.PairingRule.admits c.args.rule.now) (left_of c.args.all) c.args.room.now (set c.loop-left.room c.loop-left.count slot) after row (c.loop-left.count + 1)) (sym c.next_slot-slot.ensures.last)
-    (one_turn c.requires.within c.loop-left.invariant (omega (arith, c.requires.places, c.loop-left.auto.room)) slot c.next_slot-slot.ensures.next after c.subtract.ensures)
+    subst (λ (row : Row). SoFar (g.R.PairingRule.admits c.args.rule.now) (left_of c.args.all) c.args.room.now (set c.loop-count.room c.loop-count.count slot) after row (c.loop-count.count + 1)) (sym c.in-Some.ensures.1)
+    (one_turn c.args.all.within c.loop-count.invariant (omega (arith, c.loop-count.auto.room)) slot c.in-Some.ensures.0 after c.subtract.ensures)
 
 pub returns : goal.returns
-returns g c = ended c.requires.within c.loop-left.invariant (omega (arith, c.loop-left-test.false))
+returns g c =
+    let all : c.loop-count.count ≡ length c.loop-count.room = omega (arith, c.loop-count.auto.room) in
+    subst (λ (count : ℕ). LaidOut (g.R.PairingRule.admits c.args.rule.now) (left_of c.args.all) c.args.room.now c.loop-count.room count) all
+    (full_room c.args.all.within c.loop-count.invariant (omega (arith, c.requires, c.loop-count.auto.room)) c.loop-count.left.work.manned)

@@ -1,32 +1,25 @@
-use Rattle.std.proofs.Common.{sym, subst}
-use Rattle.graphs.specs.Graphs.{Row}
-use Rattle.graphs.specs.Covers.{Cover}
+use Rattle.std.proofs.Common.{sym, ap, ◌∙◌, subst, arith}
+use Rattle.graphs.specs.Graphs.{Row, at}
+use Rattle.graphs.specs.Covers.{Marking}
 use Rattle.plans.specs.Remaining.{graph, marks}
 use Rattle.builder.specs.Lefts.{left_of}
-use Rattle.pairings.specs.Rules.{marking}
-use Rattle.builder.proofs.Turns.{admitted_row}
+use Rattle.builder.proofs.Turns.{chooses_some}
 use Rattle.builder.proofs.building.next_slot.Goals as goal
 
-pub longest-ticks-requires : goal.longest-ticks-requires
-longest-ticks-requires g c =
+pub unreachable-requires : goal.unreachable-requires
+unreachable-requires g c = chooses_some (g.R.PairingRule.admits c.args.rule.now) _ _ c.args.pairing.now.row c.args.left.now.work.fewer c.args.left.now.within (omega (arith, c.if-left-eq0.false)) c.marks-marks.ensures c.in_default.ensures
+
+pub invariant_of-longest : goal.invariant_of-longest
+invariant_of-longest g c =
     let s = left_of c.args.left.now in
-    let admitted = admitted_row (g.R.PairingRule.admits c.args.rule.now) s (marking c.marks-marks.result) c.args.pairing.now.row c.pair-covered.new.out.row c.pair-covered.result c.args.left.now.fewer c.requires.within c.requires.more c.marks-marks.ensures c.pair-covered.ensures in
-    record {
-      within = c.requires.within;
-      cover = subst (λ (row : Row). Cover (graph s) (marks s) row) (sym c.row-row.ensures) (g.R.PairingRule.covering c.args.rule.now (graph s) (marks s) c.args.pairing.now.row c.pair-covered.new.out.row admitted);
-    }
+    let admitted = subst (λ (m : Marking). g.R.PairingRule.admits c.args.rule.now (graph s) m c.args.pairing.now.row c.in-Some.next.row) c.marks-marks.ensures c.in-Some.ensures in
+    let cover = g.R.PairingRule.covering c.args.rule.now (graph s) (marks s) c.args.pairing.now.row c.in-Some.next.row admitted in
+    record { pairs = λ p t e. let edge = cover.edges p t (ap (λ (row : Row). at row p) (sym c.row-row.ensures) ∙ e) in (edge.0, edge.1) }
 
 pub returns : goal.returns
 returns g c =
     let s = left_of c.args.left.now in
-    let admitted = admitted_row (g.R.PairingRule.admits c.args.rule.now) s (marking c.marks-marks.result) c.args.pairing.now.row c.pair-covered.new.out.row c.pair-covered.result c.args.left.now.fewer c.requires.within c.requires.more c.marks-marks.ensures c.pair-covered.ensures in
-    let same = sym c.row-row.ensures in
-    record {
-      next = record {
-        more = c.requires.more;
-        admitted = subst (λ (row : Row). g.R.PairingRule.admits c.args.rule.now (graph s) (marks s) c.args.pairing.now.row row) same admitted;
-        cover = subst (λ (row : Row). Cover (graph s) (marks s) row) same (g.R.PairingRule.covering c.args.rule.now (graph s) (marks s) c.args.pairing.now.row c.pair-covered.new.out.row admitted);
-        longest = c.longest-ticks.ensures;
-      };
-      last = same;
-    }
+    let admits : Row → Type 0 = g.R.PairingRule.admits c.args.rule.now (graph s) (marks s) c.args.pairing.now.row in
+    let admitted : admits c.row-row.result = subst admits (sym c.row-row.ensures) (subst (λ (m : Marking). g.R.PairingRule.admits c.args.rule.now (graph s) m c.args.pairing.now.row c.in-Some.next.row) c.marks-marks.ensures c.in-Some.ensures) in
+    let cover = g.R.PairingRule.covering c.args.rule.now (graph s) (marks s) c.args.pairing.now.row c.row-row.result admitted in
+    (record { more = omega (arith, c.if-left-eq0.false); admitted = admitted; cover = cover; longest = c.longest-ticks.ensures }, sym c.row-row.ensures)
