@@ -1,19 +1,16 @@
 -- Reading what was written gives the sheet back.
-use Rattle.std.proofs.Common.{◌≡◌, ℕ, zero, suc, ◌+◌, ◌/◌, ◌%◌, ◌<◌, ◌≤◌, true, cond, ◌&&◌, ltb, leb, List, [], ◌∷◌, ◌++◌, length, Some, None, Ok, Err, Option, sym, refl, ap, ◌∙◌, ⊎_elim, arith}
+use Rattle.std.proofs.Common.{◌≡◌, ℕ, zero, suc, ◌+◌, ◌<◌, ◌≤◌, true, cond, List, [], ◌∷◌, ◌++◌, length, Some, None, Ok, Option, refl, ap, ◌∙◌, ⊎_elim, arith}
 use mathlib.Core.Path.{fun_ext}
 use Rattle.std.proofs.lemmas.List.{append-nil, append_assoc}
-use Rattle.std.proofs.lemmas.Bool.{lt-ltb, le-leb, le-ltb, cases_lt, cond-true, and_from}
+use Rattle.std.proofs.lemmas.Bool.{le-ltb, cases_lt}
 use Rattle.std.proofs.lemmas.Bool.Decides.{nat_tests}
 use Rattle.sheets.specs.Cells.{written, nothing}
 use Rattle.sheets.specs.Loads.{Load}
-use Rattle.sheets.specs.Calls.{unloaded, set_answer, after_set, with_ticks, most, from_to, open_answer}
-use Rattle.planfiles.specs.declared.faults.ByteFault.TheVariants.{CutShort}
-use Rattle.planfiles.specs.declared.faults.Layer.TheVariants.{Bytes}
-use Rattle.planfiles.specs.Records.{number, fields_answer, planned, and_then, in_order}
-use Rattle.planfiles.specs.Reading.{on, read_loads, read_sheet}
+use Rattle.sheets.specs.Calls.{after_set, with_ticks, most, open_answer}
+use Rattle.planfiles.specs.Records.{fields_answer, in_order}
+use Rattle.planfiles.specs.Reading.{read_loads, read_sheet}
 use Rattle.planfiles.specs.Writing.{four, row_bytes, rows_bytes, sheet_bytes}
-use Rattle.planfiles.proofs.Steps.{fields_pass}
-use Rattle.planfiles.proofs.Records.{number_four, before, load_none, load_some, order_lt, order_eq, order_cases}
+use Rattle.planfiles.proofs.Records.{number_four, before, load_none, load_some, order_eq}
 
 -- what every sheet keeps to
 pub record Sound (s : Load) : Type 0 where
@@ -39,12 +36,10 @@ module _ (f : ℕ → ℕ → ℕ) where
   cut_some t p = fun_ext (λ a. fun_ext (λ b. grind (arith, nat_tests)))
 
   cut_row : (m t : ℕ) → ((a b : ℕ) → m ≤ b → f a b ≡ 0) → cut f t m ≡ cut f (suc t) 0
-  cut_row m t z =
-      fun_ext (λ a. fun_ext (λ b. ⊎_elim (λ l. grind (arith, nat_tests)) (λ g. let e : f a b ≡ 0 = z a b g in grind (arith, nat_tests)) (cases_lt b m)))
+  cut_row m t z = fun_ext (λ a. fun_ext (λ b. grind (arith, nat_tests, z a b)))
 
   cut_all : (n : ℕ) → ((a b : ℕ) → n ≤ a → f a b ≡ 0) → cut f n 0 ≡ f
-  cut_all n z =
-      fun_ext (λ a. fun_ext (λ b. ⊎_elim (λ l. grind (arith, nat_tests)) (λ g. let e : f a b ≡ 0 = z a b g in grind (arith, nat_tests)) (cases_lt a n)))
+  cut_all n z = fun_ext (λ a. fun_ext (λ b. grind (arith, nat_tests, z a b)))
 
 order_step : (last : Option (ℕ × ℕ)) (t p : ℕ) → in_order last t p ≡ true → in_order last t (suc p) ≡ true
 order_step None t p o = refl
@@ -52,16 +47,12 @@ order_step (Some l) t p o = grind (arith, nat_tests)
 
 order_row : (last : Option (ℕ × ℕ)) (t p : ℕ) → in_order last t p ≡ true → in_order last (suc t) 0 ≡ true
 order_row None t p o = refl
-order_row (Some l) t p o = ⊎_elim (λ h. order_lt l (suc t) 0 (omega arith)) (λ h. order_lt l (suc t) 0 (omega arith)) (order_cases l t p o)
+order_row (Some l) t p o = grind (arith, nat_tests)
 
-set_ok : (s : Load) (t p x : ℕ) → t < s.tasks → p < s.processors → x ≤ most → set_answer s t p x ≡ Ok tt
-set_ok s t p x ht hp hx =
-    cond-true (ltb t s.tasks) _ _ (lt-ltb t s.tasks ht) ∙ cond-true (ltb p s.processors) _ _ (lt-ltb p s.processors hp) ∙ cond-true (leb x most) _ _ (le-leb x most hx)
-
-after_ok : (s : Load) (t p x : ℕ) → t < s.tasks → p < s.processors → x ≤ most → after_set s t p x ≡ with_ticks s (written s.ticks t p x)
-after_ok s t p x ht hp hx =
-    cond-true (ltb t s.tasks && ltb p s.processors && leb x most) (with_ticks s (written s.ticks t p x)) s
-    (and_from (ltb t s.tasks && ltb p s.processors) (leb x most) (and_from (ltb t s.tasks) (ltb p s.processors) (lt-ltb t s.tasks ht) (lt-ltb p s.processors hp)) (le-leb x most hx))
+-- a load that fits, after the pair before, is taken
+fits_in : (s : Load) (last : Option (ℕ × ℕ)) (t p x : ℕ) → t < s.tasks → p < s.processors → x ≤ most → 1 ≤ x → in_order last t p ≡ true →
+    (fields_answer s last t p x ≡ Ok tt) × (after_set s t p x ≡ with_ticks s (written s.ticks t p x))
+fits_in s last t p x ht hp light hx o = (grind (arith, nat_tests), grind (arith, nat_tests))
 
 -- the reader has the pairs before (t, p)
 record Reached (s : Load) (t p : ℕ) : Type 0 where
@@ -76,42 +67,28 @@ module _ (s : Load) (sound : Sound s) where
 
   no_load : (t p : ℕ) → s.ticks t p ≡ 0 → Reached s t p → Reached s t (suc p)
   no_load t p z r =
-      let rows = rows_bytes s.ticks s.processors t in
-      let row = row_bytes s.ticks t p in
       record {
         last = r.last;
         at = r.at;
         order = order_step r.last t p r.order;
-        reads = λ rest.
-            ap (λ l. read_loads (with_ticks s nothing) None 7 ((rows ++ (row ++ l)) ++ rest)) (load_none s.ticks t p z)
-            ∙ ap (λ l. read_loads (with_ticks s nothing) None 7 ((rows ++ l) ++ rest)) (append-nil row)
-            ∙ r.reads rest
-            ∙ ap (λ g. read_loads (with_ticks s g) r.last r.at rest) (cut_zero s.ticks t p z);
+        reads = λ rest. rw (load_none s.ticks t p z, append-nil (row_bytes s.ticks t p), r.reads rest, cut_zero s.ticks t p z) refl;
       }
 
   a_load : (t p : ℕ) → t < s.tasks → p < s.processors → 1 ≤ s.ticks t p → Reached s t p → Reached s t (suc p)
   a_load t p ht hp hx r =
-      let f = s.ticks in
       let x = s.ticks t p in
       let rows = rows_bytes s.ticks s.processors t in
       let row = row_bytes s.ticks t p in
       let this : List ℕ = 3 ∷ t ∷ p ∷ four (s.ticks t p) in
-      let s1 = with_ticks s (cut s.ticks t p) in
-      let light : s.ticks t p ≤ most = sound.light t p in
-      let fits : s.ticks t p < 4294967296 = omega (arith, sound.light t p) in
+      let small : s.ticks t p < 4294967296 = omega (arith, sound.light t p) in
+      let fits = fits_in (with_ticks s (cut s.ticks t p)) r.last t p x ht hp (sound.light t p) hx r.order in
       record {
         last = Some (t, p);
         at = r.at + 7;
         order = order_eq (t, p) (suc p) (omega arith);
         reads = λ rest.
-            ap (λ l. read_loads (with_ticks s nothing) None 7 ((rows ++ (row ++ l)) ++ rest)) (load_some f t p x refl hx)
-            ∙ ap (λ v. read_loads (with_ticks s nothing) None 7 v)
-            (append_assoc rows (row ++ this) rest ∙ ap (λ v. rows ++ v) (append_assoc row this rest) ∙ sym (append_assoc rows row (this ++ rest)))
-            ∙ r.reads (this ++ rest)
-            ∙ ap (λ v. on (fields_answer s1 r.last t p v) r.at (read_loads (after_set s1 t p v) (Some (t, p)) (r.at + 7) rest)) (number_four x fits)
-            ∙ ap (λ w. on w r.at (read_loads (after_set s1 t p x) (Some (t, p)) (r.at + 7) rest))
-            (fields_pass s1 r.last t p x (set_ok s1 t p x ht hp light) hx r.order)
-            ∙ ap (λ v. read_loads v (Some (t, p)) (r.at + 7) rest) (after_ok s1 t p x ht hp light ∙ ap (with_ticks s) (cut_some f t p));
+            rw (load_some s.ticks t p x refl hx, append_assoc rows (row ++ this) rest, append_assoc row this rest, ← append_assoc rows row (this ++ rest))
+            (r.reads (this ++ rest) ∙ rw (number_four x small, fits.0, fits.1, cut_some s.ticks t p) refl);
       }
 
   reach_row : (t p : ℕ) → t < s.tasks → p ≤ s.processors → Reached s t 0 → Reached s t p
@@ -126,10 +103,7 @@ module _ (s : Load) (sound : Sound s) where
         last = r.last;
         at = r.at;
         order = order_row r.last t s.processors r.order;
-        reads = λ rest.
-            ap (λ v. read_loads (with_ticks s nothing) None 7 (v ++ rest)) (append-nil (rows_bytes s.ticks s.processors (suc t)))
-            ∙ r.reads rest
-            ∙ ap (λ g. read_loads (with_ticks s g) r.last r.at rest) (cut_row s.ticks s.processors t sound.beside);
+        reads = λ rest. rw (append-nil (rows_bytes s.ticks s.processors (suc t)), r.reads rest, cut_row s.ticks s.processors t sound.beside) refl;
       }
 
   reach : (t : ℕ) → t ≤ s.tasks → Reached s t 0
@@ -139,18 +113,14 @@ module _ (s : Load) (sound : Sound s) where
   loads_back : read_loads (with_ticks s nothing) None 7 (rows_bytes s.ticks s.processors s.tasks ++ 6 ∷ []) ≡ Ok s
   loads_back =
       let r = reach s.tasks (omega arith) in
-      ap (λ v. read_loads (with_ticks s nothing) None 7 (v ++ 6 ∷ [])) (sym (append-nil (rows_bytes s.ticks s.processors s.tasks)))
-      ∙ r.reads (6 ∷ [])
-      ∙ ap (λ g. Ok (with_ticks s g)) (cut_all s.ticks s.tasks sound.below)
+      rw (← append-nil (rows_bytes s.ticks s.processors s.tasks), r.reads (6 ∷ []), cut_all s.ticks s.tasks sound.below) refl
 
   open_ok : open_answer s.tasks s.processors s.frame ≡ Ok tt
   open_ok =
       let a = sound.tasked in
       let b = sound.manned in
       let d = sound.framed in
-      cond-true (from_to 1 64 s.tasks) _ _ (and_from _ _ (le-leb 1 s.tasks a.0) (le-leb s.tasks 64 a.1))
-      ∙ cond-true (from_to 1 16 s.processors) _ _ (and_from _ _ (le-leb 1 s.processors b.0) (le-leb s.processors 16 b.1))
-      ∙ cond-true (from_to 1 most s.frame) _ _ (and_from _ _ (le-leb 1 s.frame d.0) (le-leb s.frame most d.1))
+      grind (arith, nat_tests)
 
   pub written_back : read_sheet (sheet_bytes s) ≡ Ok s
   written_back =
@@ -160,9 +130,4 @@ module _ (s : Load) (sound : Sound s) where
       let tail : List ℕ = rows_bytes s.ticks s.processors s.tasks ++ 6 ∷ [] in
       let fits : s.frame < 4294967296 = omega (arith, sound.framed.1) in
       let long : 6 ≤ length (s.tasks ∷ s.processors ∷ (four s.frame ++ (rows_bytes s.ticks s.processors s.tasks ++ 6 ∷ []))) = omega arith in
-      ap (λ w. on (and_then w (planned (open_answer n m (number (l / 16777216 % 256) (l / 65536 % 256) (l / 256 % 256) (l % 256))))) 0
-      (read_loads (unloaded n m (number (l / 16777216 % 256) (l / 65536 % 256) (l / 256 % 256) (l % 256))) None 7 tail))
-      (ap (λ v. cond v (Err (Bytes CutShort)) (Ok tt)) (le-ltb (length (n ∷ m ∷ (four l ++ tail))) 6 long))
-      ∙ ap (λ v. on (planned (open_answer n m v)) 0 (read_loads (unloaded n m v) None 7 tail)) (number_four l fits)
-      ∙ ap (λ w. on (planned w) 0 (read_loads (unloaded n m l) None 7 tail)) open_ok
-      ∙ loads_back
+      rw (number_four l fits, le-ltb (length (n ∷ m ∷ (four l ++ tail))) 6 long, open_ok) loads_back

@@ -1,8 +1,8 @@
 -- The bytes of loads: what they hang on, and where there are none.
-use Rattle.std.proofs.Common.{◌≡◌, ℕ, zero, suc, ◌+◌, ◌*◌, ◌/◌, ◌%◌, ◌<◌, ◌≤◌, true, cond, ◌&&◌, eqb, ltb, ◌⊎◌, List, [], ◌∷◌, ◌++◌, Some, None, Option, sym, refl, ap, ◌∙◌, inl, inr, ⊎_elim, arith}
+use Rattle.std.proofs.Common.{◌≡◌, ℕ, zero, suc, ◌/◌, ◌%◌, ◌<◌, ◌≤◌, true, cond, ltb, ◌⊎◌, List, [], ◌∷◌, ◌++◌, Some, None, Option, refl, ap, ◌∙◌, ⊎_elim, arith}
 use native.Mathlib.Nat.{div-div-eq-div-mul}
 use Rattle.std.proofs.lemmas.List.{append-nil, append_assoc}
-use Rattle.std.proofs.lemmas.Bool.{eq-eqb, eqb-true, ltb-true, lt-ltb, cases_lt, or_cases, or_left, or_right, and_parts, and_from, cond-true}
+use Rattle.std.proofs.lemmas.Bool.{cases_lt}
 use Rattle.std.proofs.lemmas.Bool.Decides.{nat_tests}
 use Rattle.sheets.specs.Cells.{written}
 use Rattle.planfiles.specs.Records.{number, in_order}
@@ -17,19 +17,11 @@ four_number a b c d ha hb hc hd =
     let ed : number a b c d % 256 ≡ d = omega arith in
     λ i. ea i ∷ eb i ∷ ec i ∷ ed i ∷ []
 
-in_digits : (x q1 q2 q3 r0 r1 r2 r3 : ℕ) → 256 * q1 + r0 ≡ x → 256 * q2 + r1 ≡ q1 → 256 * q3 + r2 ≡ q2 → r3 ≡ q3 → number r3 r2 r1 r0 ≡ x
-in_digits x q1 q2 q3 r0 r1 r2 r3 a b c d = omega arith
-
 pub number_four : (x : ℕ) → x < 4294967296 → number (x / 16777216 % 256) (x / 65536 % 256) (x / 256 % 256) (x % 256) ≡ x
 number_four x h =
     let two : x / 256 / 256 ≡ x / 65536 = div-div-eq-div-mul x 256 256 in
     let three : x / 65536 / 256 ≡ x / 16777216 = div-div-eq-div-mul x 65536 256 in
-    let small : x / 16777216 < 256 = omega arith in
-    let d0 : 256 * (x / 256) + x % 256 ≡ x = omega arith in
-    let d1 : 256 * (x / 65536) + x / 256 % 256 ≡ x / 256 = omega arith in
-    let d2 : 256 * (x / 16777216) + x / 65536 % 256 ≡ x / 65536 = omega arith in
-    let d3 : x / 16777216 % 256 ≡ x / 16777216 = omega arith in
-    in_digits x (x / 256) (x / 65536) (x / 16777216) (x % 256) (x / 256 % 256) (x / 65536 % 256) (x / 16777216 % 256) d0 d1 d2 d3
+    omega arith
 
 module _ (f g : ℕ → ℕ → ℕ) where
   load_same : (t p : ℕ) → f t p ≡ g t p → load_bytes f t p ≡ load_bytes g t p
@@ -45,38 +37,34 @@ module _ (f g : ℕ → ℕ → ℕ) where
 
 module _ (f : ℕ → ℕ → ℕ) where
   pub load_none : (t p : ℕ) → f t p ≡ 0 → load_bytes f t p ≡ []
-  load_none t p e = ap (λ x. cond (ltb 0 x) (3 ∷ t ∷ p ∷ four x) []) e
+  load_none t p e = grind (arith, nat_tests)
 
   pub load_some : (t p x : ℕ) → f t p ≡ x → 1 ≤ x → load_bytes f t p ≡ 3 ∷ t ∷ p ∷ four x
-  load_some t p x e h =
-      ap (λ y. cond (ltb 0 y) (3 ∷ t ∷ p ∷ four y) []) e ∙ cond-true (ltb 0 x) (3 ∷ t ∷ p ∷ four x) [] (lt-ltb 0 x h)
+  load_some t p x e h = grind (arith, nat_tests)
 
   pub row_skip : (t p k : ℕ) → p ≤ k → ((b : ℕ) → p ≤ b → f t b ≡ 0) → row_bytes f t k ≡ row_bytes f t p
   row_skip t p zero h z = let e : zero ≡ p = omega arith in ap (row_bytes f t) e
   row_skip t p (suc k) h z =
       ⊎_elim
-      (λ l. (λ i. (row_skip t p k (omega arith) z) i ++ (load_none t k (z k (omega arith))) i) ∙ append-nil (row_bytes f t p))
+      (λ l. rw (load_none t k (z k (omega arith)), append-nil) (row_skip t p k (omega arith) z))
       (λ g. let e : suc k ≡ p = omega arith in ap (row_bytes f t) e) (cases_lt p (suc k))
 
   pub rows_skip : (m t k : ℕ) → t ≤ k → ((a b : ℕ) → t ≤ a → f a b ≡ 0) → rows_bytes f m k ≡ rows_bytes f m t
   rows_skip m t zero h z = let e : zero ≡ t = omega arith in ap (rows_bytes f m) e
   rows_skip m t (suc k) h z =
       ⊎_elim
-      (λ l. (λ i. (rows_skip m t k (omega arith) z) i ++ (row_skip k 0 m (omega arith) (λ b _. z k b (omega arith))) i) ∙ append-nil (rows_bytes f m t))
+      (λ l. rw (row_skip k 0 m (omega arith) (λ b _. z k b (omega arith)), append-nil) (rows_skip m t k (omega arith) z))
       (λ g. let e : suc k ≡ t = omega arith in ap (rows_bytes f m) e) (cases_lt t (suc k))
 
 -- the order of pairs
 pub order_lt : (l : ℕ × ℕ) (a b : ℕ) → l.0 < a → in_order (Some l) a b ≡ true
-order_lt l a b h = or_left (ltb l.0 a) (eqb l.0 a && ltb l.1 b) (lt-ltb l.0 a h)
+order_lt l a b h = grind (arith, nat_tests)
 
 pub order_eq : (l : ℕ × ℕ) (b : ℕ) → l.1 < b → in_order (Some l) l.0 b ≡ true
-order_eq l b h = or_right (ltb l.0 l.0) (eqb l.0 l.0 && ltb l.1 b) (and_from (eqb l.0 l.0) (ltb l.1 b) (eq-eqb l.0 l.0 refl) (lt-ltb l.1 b h))
+order_eq l b h = grind (arith, nat_tests)
 
 pub order_cases : (l : ℕ × ℕ) (t p : ℕ) → in_order (Some l) t p ≡ true → (l.0 < t) ⊎ ((l.0 ≡ t) × (l.1 < p))
-order_cases l t p o =
-    ⊎_elim (λ h. inl (ltb-true l.0 t h))
-    (λ h. let q = and_parts (eqb l.0 t) (ltb l.1 p) h in inr (eqb-true l.0 t q.0, ltb-true l.1 p q.1))
-    (or_cases (ltb l.0 t) (eqb l.0 t && ltb l.1 p) o)
+order_cases l t p o = grind (arith, nat_tests)
 
 pub order_trans : (last : Option (ℕ × ℕ)) (t p a b : ℕ) → in_order last t p ≡ true → in_order (Some (t, p)) a b ≡ true → in_order last a b ≡ true
 order_trans None t p a b o q = refl
@@ -100,22 +88,18 @@ Within n m (Some l) = (l.0 < n) × (l.1 < m)
 
 pub skip : (f : ℕ → ℕ → ℕ) (n m t p : ℕ) (last : Option (ℕ × ℕ)) → Clean f last → Within n m last → in_order last t p ≡ true → upto f m last ≡ before f m t p
 skip f n m t p None clean w o =
-    sym (λ i. (rows_skip f m 0 t (omega arith) (λ a b _. clean a b refl)) i ++ (row_skip f t 0 p (omega arith) (λ b _. clean t b refl)) i)
+    rw (rows_skip f m 0 t (omega arith) (λ a b _. clean a b refl), row_skip f t 0 p (omega arith) (λ b _. clean t b refl)) refl
 skip f n m t p (Some l) clean w o =
     let after : (a b : ℕ) → suc l.0 ≤ a → f a b ≡ 0 = λ a b h. clean a b (order_lt l a b h) in
     let beside : (b : ℕ) → suc l.1 ≤ b → f l.0 b ≡ 0 = λ b h. clean l.0 b (order_eq l b h) in
     ⊎_elim
-    (λ h. ap (λ r. rows_bytes f m l.0 ++ r) (sym (row_skip f l.0 (suc l.1) m w.1 beside))
-    ∙ sym (rows_skip f m (suc l.0) t h after)
-    ∙ sym (append-nil (rows_bytes f m t))
-    ∙ ap (λ r. rows_bytes f m t ++ r) (sym (row_skip f t 0 p (omega arith) (λ b _. after t b h))))
-    (λ h. ap (λ r. rows_bytes f m l.0 ++ r) (sym (row_skip f l.0 (suc l.1) p h.1 beside))
-    ∙ ap (λ a. before f m a p) h.0) (order_cases l t p o)
+    (λ h. rw (rows_skip f m (suc l.0) t h after, row_skip f t 0 p (omega arith) (λ b _. after t b h), append-nil, row_skip f l.0 (suc l.1) m w.1 beside) refl)
+    (λ h. rw (← h.0, row_skip f l.0 (suc l.1) p h.1 beside) refl) (order_cases l t p o)
 
 -- one more load
 module _ (f : ℕ → ℕ → ℕ) (t p x : ℕ) where
   written_here : written f t p x t p ≡ x
-  written_here = cond-true (eqb t t && eqb p p) x (f t p) (and_from (eqb t t) (eqb p p) (eq-eqb t t refl) (eq-eqb p p refl))
+  written_here = grind (arith, nat_tests)
 
   written_left : (b : ℕ) → b < p → f t b ≡ written f t p x t b
   written_left b h = grind (arith, nat_tests)
@@ -134,8 +118,4 @@ module _ (f : ℕ → ℕ → ℕ) (t p x : ℕ) where
       let g = written f t p x in
       let this : List ℕ = 3 ∷ t ∷ p ∷ four x in
       let here : load_bytes (written f t p x) t p ≡ 3 ∷ t ∷ p ∷ four x = load_some (written f t p x) t p x written_here h in
-      ap (λ r. r ++ (this ++ rest)) (skip f n m t p last clean w o)
-      ∙ append_assoc (rows_bytes f m t) (row_bytes f t p) (this ++ rest)
-      ∙ ap (λ r. rows_bytes f m t ++ r) (sym (append_assoc (row_bytes f t p) this rest))
-      ∙ sym (append_assoc (rows_bytes f m t) (row_bytes f t p ++ this) rest)
-      ∙ (λ i. ((rows_same f g m t written_above) i ++ ((row_same f g t p written_left) i ++ (sym here) i)) ++ rest)
+      rw (skip f n m t p last clean w o, rows_same f g m t written_above, row_same f g t p written_left, here) (simp append_assoc)

@@ -1,5 +1,5 @@
 -- The number of each fault of a file, and the number underneath it.
-use Rattle.std.specs.Prelude.{ℕ}
+use Rattle.std.specs.Prelude.{ℕ, Some, None, Option}
 use Rattle.sheets.specs.Refusals.{number_of as refusal_number}
 use Rattle.planfiles.specs.declared.faults.ByteFault.TheVariants.{CutShort}
 use Rattle.planfiles.specs.declared.faults.RecordFault.TheVariants.{UnknownKind, OutOfPlace, OutOfOrder}
@@ -18,11 +18,11 @@ layer_number (Plan p) = 25
 abbrev pub number_of : Fault → ℕ
 number_of f = layer_number f.layer
 
-abbrev layer_underneath : Layer → ℕ
-layer_underneath (Bytes b) = 0
-layer_underneath (Records r) = 0
-layer_underneath (Plan (SheetRefused refusal)) = refusal_number refusal
+abbrev layer_underneath : Layer → Option ℕ
+layer_underneath (Bytes b) = None
+layer_underneath (Records r) = None
+layer_underneath (Plan (SheetRefused refusal)) = Some (refusal_number refusal)
 
--- the number of what refused the record's fields; 0 where nothing did
-abbrev pub underneath : Fault → ℕ
+-- the number of what refused the record's fields, where something did
+abbrev pub underneath : Fault → Option ℕ
 underneath f = layer_underneath f.layer

@@ -2,9 +2,7 @@
 use Rattle.std.specs.Prelude.{ℕ, ◌+◌, ◌*◌, Bool, true, cond, ◌&&◌, ◌||◌, List, [], ◌∷◌, length, Some, None, Ok, Err, Option, Result, ◌==◌, nat_le, nat_lt}
 use Rattle.sheets.specs.Loads.{Load}
 use Rattle.sheets.specs.Calls.{Answer, set_answer}
-use Rattle.planfiles.specs.declared.faults.ByteFault.{ByteFault}
 use Rattle.planfiles.specs.declared.faults.ByteFault.TheVariants.{CutShort}
-use Rattle.planfiles.specs.declared.faults.RecordFault.{RecordFault}
 use Rattle.planfiles.specs.declared.faults.RecordFault.TheVariants.{UnknownKind, OutOfOrder}
 use Rattle.planfiles.specs.declared.faults.PlanFault.TheVariants.{SheetRefused}
 use Rattle.planfiles.specs.declared.faults.Layer.{Layer}
@@ -17,14 +15,6 @@ number a b c d = a * 16777216 + b * 65536 + c * 256 + d
 -- how many bytes follow each kind of the table
 abbrev pub size_of : ℕ → Option ℕ
 size_of k = cond (k == 1 || k == 2 || k == 3) (Some 6) (cond (k == 4) (Some 4) (cond (k == 5) (Some 2) (cond (k == 6) (Some 0) None)))
-
--- a kind of the table, and a body that has its bytes
-abbrev pub known : Option ℕ → Result ℕ RecordFault
-known None = Err UnknownKind
-known (Some n) = Ok n
-
-abbrev pub enough : ℕ → ℕ → Result (Unit {0}) ByteFault
-enough long n = cond (nat_lt long n) (Err CutShort) (Ok tt)
 
 abbrev pub Passed : Type 0
 Passed = Result (Unit {0}) Layer

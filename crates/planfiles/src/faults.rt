@@ -38,6 +38,7 @@ pub struct Fault {
     pub layer: Layer,
 }
 
+// A method and no `From<..> for u8`, since its name says what the number is.
 impl Fault {
     /// The number that the fault is known by.
     pub fn number(self) -> u8
@@ -52,14 +53,23 @@ impl Fault {
         }
     }
 
-    /// The number underneath a plan fault; 0 where there is none.
-    pub fn underneath(self) -> u8
+    /// The number underneath a plan fault; no other fault has one.
+    pub fn underneath(self) -> Option<u8>
         ensures { result ≡ underneath self }
     {
         match self.layer {
-            Layer::Plan(PlanFault::SheetRefused(refusal)) => refusal.number(),
-            _ => 0,
+            Layer::Plan(PlanFault::SheetRefused(refusal)) => Some(refusal.number()),
+            _ => None,
         }
+    }
+}
+
+impl Layer {
+    // The layer's fault, in the record that begins at a place.
+    pub(crate) fn at(self, place: usize) -> Fault
+        ensures { result ≡ record { place = place; layer = self } }
+    {
+        Fault { place, layer: self }
     }
 }
 

@@ -2,6 +2,7 @@
 #![tactic(auto)]
 
 mod faults;
+mod kinds;
 mod reader;
 
 pub use faults::{ByteFault, Fault, Layer, PlanFault, RecordFault};

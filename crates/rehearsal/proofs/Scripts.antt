@@ -1,15 +1,14 @@
 -- A script while it is played.
-use Rattle.std.proofs.Common.{◌≡◌, ℕ, zero, suc, ◌+◌, ◌<◌, ◌≤◌, ◌≢◌, List, length, take, set, Some, sym, refl, ap, ◌∙◌, subst, add-one, arith}
+use Rattle.std.proofs.Common.{◌≡◌, ℕ, zero, suc, ◌+◌, ◌<◌, ◌≤◌, ◌≢◌, List, length, take, set, Some, sym, refl, ap, ◌∙◌, add-one, arith}
 use lib.Seq.{map-set_same}
-use Rattle.std.proofs.lemmas.List.{get_or-set_same, get_or-set_other, get_or-map, length-map, take_all}
+use Rattle.std.proofs.lemmas.List.{get_or-set_same, get_or-set_other, get_or-map, length-map}
 use Rattle.std.proofs.lemmas.List.Sums.{fold_more}
 use Rattle.builder.specs.declared.slots.Slot.{Slot}
 use Rattle.pairings.specs.Rules.{Rule}
 use Rattle.sheets.specs.Calls.{blank}
 use Rattle.sheets.specs.Loads.{Load}
-use Rattle.rehearsal.specs.Calls.{after, accepted, AnsweredCall}
+use Rattle.rehearsal.specs.Calls.{after, accepted, CallAnswer, AnsweredCall}
 use Rattle.rehearsal.specs.Playing.{calls_of, entry_at, Answered, Played}
-use Rattle.rehearsal.specs.declared.calls.CallAnswer.{CallAnswer}
 use Rattle.rehearsal.specs.declared.calls.Entry.{Entry}
 use Rattle.rehearsal.specs.declared.calls.SheetCall.{SheetCall}
 use Rattle.rehearsal.specs.declared.calls.SheetCall.TheVariants.{Build}
@@ -19,9 +18,6 @@ pub record SoFar (admits : Rule) (script script' : List Entry) (room room' : Lis
   pub calls : calls_of script' ≡ calls_of script
   pub load : s ≡ accepted (take i (calls_of script))
   pub played : Played admits script' i room room'
-
-pub begun : (admits : Rule) (script : List Entry) (room : List Slot) (s : Load) → s ≡ blank → SoFar admits script script room room s 0
-begun admits script room s e = record { calls = refl; load = e; played = refl }
 
 -- the entry with its answer beside it
 abbrev answered : Entry → CallAnswer → Entry
@@ -39,10 +35,8 @@ moved : (admits : Rule) (script script' : List Entry) (k : ℕ) (room room' : Li
     calls_of script' ≡ calls_of script → entry_at script' k ≡ entry_at script k → Answered admits script k room room' → Answered admits script' k room room'
 moved admits script script' k room room' calls entry h = record {
   answer = h.answer;
-  beside = ap (λ (e : Entry). e.answer) entry ∙ h.beside;
-  holds =
-      subst (λ (e : Entry). AnsweredCall admits (accepted (take k (calls_of script'))) e.call room room' h.answer) (sym entry)
-      (subst (λ (cs : List SheetCall). AnsweredCall admits (accepted (take k cs)) (entry_at script k).call room room' h.answer) (sym calls) h.holds);
+  beside = rw entry h.beside;
+  holds = rw (entry, calls) h.holds;
 }
 
 played_still : (admits : Rule) (script : List Entry) (i : ℕ) (a : CallAnswer) (k : ℕ) (room room' : List Slot) → k ≤ i →
@@ -66,28 +60,16 @@ one_more {admits} {script} {script'} {room} {room'} {s} {i} so lt a room'' s'' m
     record {
       calls = same_calls script' i a ∙ so.calls;
       load =
-          moves ∙ ap (λ (t : Load). after t (entry_at script' i).call) load
-          ∙ ap (after (accepted (take i (calls_of script')))) (sym (get_or-map (λ (e : Entry). e.call) script' i _ Build lt))
-          ∙ sym (fold_more after blank (calls_of script') i Build long)
-          ∙ ap (λ (cs : List SheetCall). accepted (take (i + 1) cs)) so.calls;
+          let call = get_or-map (λ (e : Entry). e.call) script' i _ Build lt in
+          let more = fold_more after blank (calls_of script') i Build long in
+          rw (moves, load, ← so.calls, more, call) refl;
       played = rw add-one (
         room',
         played_still admits script' i a i room room' (omega arith) so.played,
         record {
           answer = a;
-          beside = ap (λ (e : Entry). e.answer) here;
-          holds =
-              subst (λ (e : Entry). AnsweredCall admits (accepted (take i (calls_of (with_answer script' i a)))) e.call room' room'' a) (sym here)
-              (subst (λ (t : Load). AnsweredCall admits t (entry_at script' i).call room' room'' a)
-              (load ∙ ap (λ (cs : List SheetCall). accepted (take i cs)) (sym (same_calls script' i a))) holds);
+          beside = rw here refl;
+          holds = rw (here, same_calls script' i a, ← load) holds;
         },
       );
     }
-
--- all calls are played
-pub all_played : {admits : Rule} {script script' : List Entry} {room room' : List Slot} {s : Load} {i : ℕ} → SoFar admits script script' room room' s i →
-    i ≡ length script → (s ≡ accepted (calls_of script)) × Played admits script' (length script) room room'
-all_played {admits} {script} {script'} {room} {room'} {s} {i} so e = (
-  so.load ∙ ap accepted (take_all i (calls_of script) (omega (arith, length-map script (λ (x : Entry). x.call)))),
-  subst (λ (k : ℕ). Played admits script' k room room') e so.played,
-)

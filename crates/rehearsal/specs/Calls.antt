@@ -1,13 +1,13 @@
 -- What a list of calls on a sheet says, from the calls alone, and what each call answers.
-use Rattle.std.specs.Prelude.{◌≡◌, ℕ, List, Ok, Err, fold, Result}
+use Rattle.std.specs.Prelude.{◌≡◌, ℕ, List, Some, None, Option, Ok, Err, fold, Result}
 use Rattle.builder.specs.Answers.{BuildAnswer, Exact}
 use Rattle.builder.specs.declared.refusals.BuildRefusal.{BuildRefusal}
 use Rattle.builder.specs.declared.slots.Slot.{Slot}
 use Rattle.pairings.specs.Rules.{Rule}
 use Rattle.sheets.specs.Calls.{Answer, blank, after_open, after_set, after_withdraw, after_reframe, open_answer, set_answer, withdraw_answer, reframe_answer}
 use Rattle.sheets.specs.Loads.{Load}
-use Rattle.rehearsal.specs.declared.calls.CallAnswer.{CallAnswer}
-use Rattle.rehearsal.specs.declared.calls.CallAnswer.TheVariants.{Accepted, Built, SheetRefused, BuildRefused}
+use Rattle.rehearsal.specs.declared.calls.CallRefusal.{CallRefusal}
+use Rattle.rehearsal.specs.declared.calls.CallRefusal.TheVariants.{Sheet as BySheet, Build as ByBuild}
 use Rattle.rehearsal.specs.declared.calls.SheetCall.{SheetCall}
 use Rattle.rehearsal.specs.declared.calls.SheetCall.TheVariants.{Open, Set, Withdraw, Reframe, Build}
 
@@ -23,13 +23,17 @@ after s Build = s
 abbrev pub accepted : List SheetCall → Load
 accepted calls = fold after blank calls
 
+-- how many slots a build wrote, and none for another call, or what refused the call
+abbrev pub CallAnswer : Type 0
+CallAnswer = Result (Option ℕ) CallRefusal
+
 abbrev pub of_sheet : Answer → CallAnswer
-of_sheet (Ok _) = Accepted
-of_sheet (Err refusal) = SheetRefused refusal
+of_sheet (Ok _) = Ok None
+of_sheet (Err refusal) = Err (BySheet refusal)
 
 abbrev pub of_build : Result ℕ BuildRefusal → CallAnswer
-of_build (Ok count) = Built count
-of_build (Err refusal) = BuildRefused refusal
+of_build (Ok count) = Ok (Some count)
+of_build (Err refusal) = Err (ByBuild refusal)
 
 -- a build of a load: what it answers, and the room that it leaves
 abbrev pub Builds : Rule → Load → List Slot → List Slot → Result ℕ BuildRefusal → Type 0

@@ -3,11 +3,10 @@ use Rattle.std.specs.Prelude.{◌≡◌, ℕ, zero, suc, List, map, length, take
 use Rattle.builder.specs.declared.refusals.BuildRefusal.{BuildRefusal}
 use Rattle.builder.specs.declared.slots.Slot.{Slot}
 use Rattle.pairings.specs.Rules.{Rule}
-use Rattle.rehearsal.specs.declared.calls.CallAnswer.{CallAnswer}
 use Rattle.rehearsal.specs.declared.calls.Entry.{Entry}
 use Rattle.rehearsal.specs.declared.calls.SheetCall.{SheetCall}
 use Rattle.rehearsal.specs.declared.calls.SheetCall.TheVariants.{Open}
-use Rattle.rehearsal.specs.Calls.{accepted, Builds, AnsweredCall}
+use Rattle.rehearsal.specs.Calls.{accepted, Builds, CallAnswer, AnsweredCall}
 
 abbrev pub calls_of : List Entry → List SheetCall
 calls_of script = map (λ e. e.call) script

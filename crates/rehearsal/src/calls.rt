@@ -1,3 +1,6 @@
+ghost use Rattle.std.specs.Prelude.{◌≡◌};
+ghost use Rattle.rehearsal.specs.declared.calls.CallRefusal.TheVariants.{Sheet, Build};
+
 use builder::BuildRefusal;
 use sheets::SheetRefusal;
 
@@ -23,18 +26,34 @@ pub enum SheetCall {
     Build,
 }
 
-/// What a call answers.
+/// What a call answers: how many slots it wrote, where it was a build, or what refused it.
+pub type CallAnswer = Result<Option<usize>, CallRefusal>;
+
+/// Who refused a call, and why.
 #[derive(Clone, Copy, PartialEq, Eq, Debug)]
-pub enum CallAnswer {
-    Accepted,
-    /// A build wrote this many slots.
-    Built(usize),
-    SheetRefused(SheetRefusal),
-    BuildRefused(BuildRefusal),
+pub enum CallRefusal {
+    Sheet(SheetRefusal),
+    Build(BuildRefusal),
+}
+
+impl From<SheetRefusal> for CallRefusal {
+    ghost from_gives = { λ x y. y ≡ Sheet x };
+
+    fn from(refusal: SheetRefusal) -> CallRefusal {
+        CallRefusal::Sheet(refusal)
+    }
+}
+
+impl From<BuildRefusal> for CallRefusal {
+    ghost from_gives = { λ x y. y ≡ Build x };
+
+    fn from(refusal: BuildRefusal) -> CallRefusal {
+        CallRefusal::Build(refusal)
+    }
 }
 
 /// A call of a script, and what it answered once it was played.
-#[derive(Clone, Copy)]
+#[derive(Clone, Copy, PartialEq, Eq, Debug)]
 pub struct Entry {
     pub call: SheetCall,
     pub answer: Option<CallAnswer>,

@@ -5,5 +5,5 @@ mod answering;
 mod calls;
 mod playing;
 
-pub use calls::{CallAnswer, Entry, SheetCall};
+pub use calls::{CallAnswer, CallRefusal, Entry, SheetCall};
 pub use playing::rehearse;

@@ -5,4 +5,4 @@ use Rattle.planfiles.proofs.reader.reads_back.Goals as goal
 pub returns : goal.returns
 returns c =
     let s = c.args.sheet.now in
-    written_back (load_of s) (record { tasked = s.tasked; manned = s.manned; framed = s.framed; light = s.light; below = s.below; beside = s.beside })
+    written_back (load_of s) (record { tasked = s.size.tasked; manned = s.size.manned; framed = s.size.framed; light = s.light; below = s.below; beside = s.beside })
