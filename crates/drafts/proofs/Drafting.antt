@@ -15,7 +15,8 @@ use Rattle.templates.specs.Layouts.{Layout, laid}
 use Rattle.templates.specs.declared.refusals.TemplateRefusal.{TemplateRefusal}
 use Rattle.templates.proofs.Soundness.{adopts_the_sound}
 use Rattle.graphs.specs.Covers.{all_idle}
-use Rattle.drafts.specs.Drafts.{Drafted, TemplateOf, Roomed, first_by_number}
+use Rattle.preferences.specs.Numbers.{first_by_number}
+use Rattle.drafts.specs.Drafts.{Drafted, TemplateOf, Roomed}
 use Rattle.drafts.proofs.Adopting.{built_sound}
 
 pub refused_build : (file : List ℕ) (s : Load) (room room' : List Slot) (old : Layout) (refusal : BuildRefusal) →

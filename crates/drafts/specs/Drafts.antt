@@ -9,17 +9,11 @@ use Rattle.listings.specs.Refusing.{Answered, layout_text, refusal_text}
 use Rattle.listings.specs.declared.refusals.Refusal.{Refusal}
 use Rattle.listings.specs.declared.refusals.Refusal.TheVariants.{Sheet, File, Build, Template}
 use Rattle.listings.specs.declared.refusals.ListRefusal.{ListRefusal}
-use Rattle.pairings.specs.Rules.{Rule}
 use Rattle.planfiles.specs.Reading.{read_sheet}
 use Rattle.plans.specs.Plans.{UnitPlan, Plannable}
-use Rattle.preferences.specs.Numbers.{by_number}
-use Rattle.preferences.specs.Preferences.{First}
+use Rattle.preferences.specs.Numbers.{first_by_number}
 use Rattle.sheets.specs.Loads.{Load, places_needed}
 use Rattle.templates.specs.Layouts.{Layout}
-
--- the first rule by number: it admits the first cover, the lower task first
-abbrev pub first_by_number : Rule
-first_by_number g marks before row = First by_number g marks before row
 
 -- the template of a load: its numbers, and slots that the first rule by number builds and that plan the load tick by tick
 pub record TemplateOf (s : Load) (l : Layout) : Type 0 where

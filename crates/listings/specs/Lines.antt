@@ -1,9 +1,5 @@
--- What a line says, and what an output holds after a text was put into it.
+-- What an output holds after a text was put into it.
 use Rattle.std.specs.Prelude.{ℕ, ◌+◌, List, ◌++◌, length, take, drop}
-use Rattle.listings.specs.declared.line.Line.{Line}
-
-abbrev pub text_of : Line → List ℕ
-text_of line = take line.len line.bytes
 
 -- the text from a place on, and the other places as they were
 abbrev pub put_at : ℕ → List ℕ → List ℕ → List ℕ

@@ -1,5 +1,5 @@
 -- The bytes that a refusal is listed as, and what listing answers.
-use Rattle.std.specs.Prelude.{ℕ, List, [], ◌++◌, Some, None, Ok, Err, codes, decimal, Result}
+use Rattle.std.specs.Prelude.{ℕ, List, [], ◌++◌, Some, None, Ok, Err, codes, decimal, Result, unwrap_or}
 use Rattle.builder.specs.declared.lines.Line.{Line}
 use Rattle.builder.specs.declared.lines.Line.TheVariants.{Task, Processor}
 use Rattle.builder.specs.declared.refusals.BuildRefusal.TheVariants.{NoPlan, NoRoom}
@@ -17,10 +17,10 @@ abbrev pub over_text : Line → List ℕ
 over_text (Task t) = codes " task " ++ decimal t
 over_text (Processor p) = codes " processor " ++ decimal p
 
--- what a refusal says beside its number: the line named, or the place in the file and the number underneath
+-- what a refusal says beside its number: the line named, or the place in the file and the number underneath, 0 where there is none
 abbrev pub details_text : Refusal → List ℕ
 details_text (Sheet refusal) = []
-details_text (File fault) = codes " at " ++ (decimal fault.place ++ (codes " by " ++ decimal (underneath fault)))
+details_text (File fault) = codes " at " ++ (decimal fault.place ++ (codes " by " ++ decimal (unwrap_or (underneath fault) 0)))
 details_text (Build (NoPlan line)) = over_text line
 details_text (Build NoRoom) = []
 details_text (Template refusal) = []

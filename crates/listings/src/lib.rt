@@ -2,7 +2,6 @@
 #![tactic(auto)]
 
 mod layouts;
-mod line;
 mod listing;
 mod pushes;
 mod refusals;

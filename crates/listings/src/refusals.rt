@@ -17,6 +17,7 @@ pub enum Refusal {
     Template(TemplateRefusal),
 }
 
+// A method and no `From<..> for u8`, since its name says what the number is.
 impl Refusal {
     /// The number that a refusal is known by.
     pub fn number(self) -> u8
@@ -69,6 +70,7 @@ pub enum ListRefusal {
     OutputTooShort,
 }
 
+// A method and no cast: a contract cannot read an enum's `as u8`.
 impl ListRefusal {
     /// The number that a refusal is known by.
     pub fn number(self) -> u8

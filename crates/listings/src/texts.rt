@@ -1,32 +1,31 @@
 // The lines of a listing.
 ghost use Rattle.std.specs.Prelude.{◌≡◌, ◌≤◌};
-ghost use Rattle.listings.specs.Lines.{text_of};
 ghost use Rattle.listings.specs.Listing.{first_line, slot_line};
 
-use crate::line::Line;
+use crate::pushes::{Line, push_entry, push_field, push_number};
 use builder::Slot;
+use sheets::Size;
 
-pub(crate) fn first_line(tasks: usize, processors: usize, frame: u32, slots: usize) -> Line
-    ensures { text_of result ≡ first_line tasks processors frame slots }
+pub(crate) fn first_line(size: Size, slots: usize) -> Line
+    ensures { result.bytes ≡ first_line size.tasks size.processors size.frame slots }
 {
-    let mut line = Line::empty();
-    line.push_field(b"frame ", frame as u64);
-    line.push_field(b" tasks ", tasks as u64);
-    line.push_field(b" processors ", processors as u64);
-    line.push_field(b" slots ", slots as u64);
-    line.push(b'\n');
+    let mut line = Line::new();
+    push_field(&mut line, "frame ", u64::from(size.frame));
+    push_field(&mut line, " tasks ", size.tasks as u64);
+    push_field(&mut line, " processors ", size.processors as u64);
+    push_field(&mut line, " slots ", slots as u64);
+    line.push_str("\n");
     line
 }
 
-pub(crate) fn slot_line(slot: &Slot, processors: usize) -> Line
-    requires { processors ≤ 16 }
-    ensures { text_of result ≡ slot_line processors slot.now }
+pub(crate) fn slot_line(size: Size, slot: &Slot) -> Line
+    ensures { result.bytes ≡ slot_line size.processors slot.now }
 {
-    let mut line = Line::empty();
-    line.push_number(slot.ticks as u64);
-    for processor in 0..processors {
-        line.push_entry(slot.row[processor]);
+    let mut line = Line::new();
+    push_number(&mut line, u64::from(slot.ticks));
+    for entry in &slot.row[..size.processors] {
+        push_entry(&mut line, *entry);
     }
-    line.push(b'\n');
+    line.push_str("\n");
     line
 }

@@ -26,8 +26,6 @@ fn main(rt: HostRuntime) -> anyhow::Result<()> {
     let Ok(length) = list_draft(&file, &mut room, &mut template, &mut output) else {
         return Err(anyhow!("the listing is longer than its room"));
     };
-    if length <= output.len() {
-        rt.stdout().write_all(&output[..length])?;
-    }
+    rt.stdout().write_all(&output[..length])?;
     Ok(())
 }

@@ -22,7 +22,7 @@ returns-in_err-adopt c =
     let s = load_of c.in_ok-sheet.sheet in
     let answer = c.in_ok-count.ensures.answer in
     let long : length c.build_default.new.room ≡ length c.args.room.now = search rules in
-    let bounded : Bounded (load_of c.in_ok-sheet.sheet) = record { tasked = sheet.tasked; manned = sheet.manned; framed = sheet.framed } in
+    let bounded : Bounded (load_of c.in_ok-sheet.sheet) = record { tasked = sheet.size.tasked; manned = sheet.size.manned; framed = sheet.size.framed } in
     let front = take c.in_ok-count.count c.build_default.new.room in
     let taken = adopted s c.args.room.now c.build_default.new.room c.in_ok-count.count bounded answer.1 answer.0 long in
     never_refused (adopted_as s front c.tasks.ensures c.processors.ensures c.frame.ensures refl taken) c.in_err-adopt.ensures.answer
@@ -37,7 +37,7 @@ returns c =
     let front = take c.in_ok-count.count c.build_default.new.room in
     let answer = c.in_ok-count.ensures.answer in
     let long : length c.build_default.new.room ≡ length c.args.room.now = search rules in
-    let bounded : Bounded (load_of c.in_ok-sheet.sheet) = record { tasked = sheet.tasked; manned = sheet.manned; framed = sheet.framed } in
+    let bounded : Bounded (load_of c.in_ok-sheet.sheet) = record { tasked = sheet.size.tasked; manned = sheet.size.manned; framed = sheet.size.framed } in
     let taken = adopted s room room' count bounded answer.1 answer.0 long in
     let into = adopted_into s front c.tasks.ensures c.processors.ensures c.frame.ensures refl (layout_of c.args.template.now) taken in
     let h = drafted s room room' front (layout_of c.adopt.new.self) (c.adopt.ensures.state ∙ into) (template_of s room room' count bounded answer.1 answer.0 long) in

@@ -1,9 +1,9 @@
-use Rattle.std.proofs.Common.{◌≡◌, ◌+◌, ◌*◌, ◌≤◌, ◌++◌, length, decimal}
-use Rattle.listings.specs.Lines.{text_of}
+use Rattle.std.proofs.Common.{◌≡◌, ◌+◌, ◌*◌, ◌≤◌, ◌++◌, decimal}
+use Rattle.arrayvec.specs.ArrayString.{array_string_len}
 use Rattle.listings.specs.Listing.{entries_text}
 use Rattle.listings.proofs.texts.slot_line.Given as goal
 
-abbrev pub invariant-loop-processor : goal.invariant-loop-processor
-invariant-loop-processor l =
-    (text_of l.line ≡ decimal l.slot.ticks ++ entries_text l.slot.row l.processor)
-    × (length (text_of l.line) ≤ 10 + 4 * l.processor)
+abbrev pub invariant-loop-entry : goal.invariant-loop-entry
+invariant-loop-entry l =
+    (l.line.bytes ≡ decimal l.slot.ticks ++ entries_text l.slot.row l.entry-index)
+    × (array_string_len l.line ≤ 20 + 4 * l.entry-index)
