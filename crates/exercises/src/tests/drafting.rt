@@ -20,11 +20,8 @@ fn push_record(
     second: u8,
     number: u32,
 ) -> Result<(), AllocError> {
-    let [a, b, c, d] = number.to_be_bytes();
-    for byte in [kind, first, second, a, b, c, d] {
-        file.push(byte)?;
-    }
-    Ok(())
+    file.extend_from_slice(&[kind, first, second])?;
+    file.extend_from_slice(&number.to_be_bytes())
 }
 
 fn sheet_file(
@@ -157,13 +154,13 @@ fn full_file(heap: Global) -> Result<Vec<u8>, AllocError> {
 
 // The ticks that a pair has in a list of slots.
 fn ticks_of(slots: &[Slot], task: u8, processor: usize) -> u64 {
-    let mut ticks: u64 = 0;
-    for slot in slots {
-        if processor < 16 && slot.row[processor] == Some(task) {
-            ticks = ticks.wrapping_add(slot.ticks as u64);
-        }
-    }
-    ticks
+    slots
+        .iter()
+        .filter(|slot| slot.row.get(processor) == Some(&Some(task)))
+        .fold(
+            0,
+            |ticks: u64, slot| ticks.wrapping_add(u64::from(slot.ticks)),
+        )
 }
 
 #[test]

@@ -1,21 +1,11 @@
-use builder::Slot;
+use crate::tests::slots::slot;
 use listings::{ListRefusal, Listable};
 use std::test::*;
 use templates::Template;
 
 fn two_slots() -> Template {
-    let mut first = Slot {
-        ticks: 5,
-        row: [None; 16],
-    };
-    first.row[0] = Some(0);
-    first.row[1] = Some(1);
-    let mut second = Slot {
-        ticks: 5,
-        row: [None; 16],
-    };
-    second.row[1] = Some(0);
-    second.row[2] = Some(1);
+    let first = slot(5, &[Some(0), Some(1)]);
+    let second = slot(5, &[None, Some(0), Some(1)]);
     let mut template = Template::blank();
     let _ = template.adopt(2, 3, 10, &[first, second]);
     template

@@ -1,5 +1,6 @@
 use preferences::Preference;
 use ranks::{ByRank, RankList, RankRefusal};
+use std::array;
 use std::test::*;
 
 #[test]
@@ -23,12 +24,9 @@ fn a_repeated_rank_is_refused_and_changes_nothing(rt: HostRuntime) -> Result<(),
 
 #[test]
 fn ranks_turned_round_turn_the_preference(rt: HostRuntime) -> Result<(), Fail> {
-    let mut ranks = [0u8; 64];
-    for task in 0..64u8 {
-        ranks[task as usize] = 63 - task;
-    }
     let mut list = RankList::by_number();
-    assert_eq!(rt; list.replace(ranks), Ok(()));
+    let turned = array::from_fn(|task| 63 - task as u8);
+    assert_eq!(rt; list.replace(turned), Ok(()));
     assert!(rt; ByRank { list: &list }.comes_before(0, None, 4, 3));
     Ok(())
 }

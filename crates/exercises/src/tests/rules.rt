@@ -1,39 +1,26 @@
-ghost use Rattle.std.specs.Prelude.{nat_le};
-
-use graphs::Graph;
+use crate::tests::ladders::Ladder;
 use pairings::{Marks, Pairing, PairingRule, UnionRule};
 use preferences::{ByNumber, FirstRule};
 use std::test::*;
 
 // Three tasks and two processors; task 0 is joined to processor 0 alone.
-struct Steps;
+const STEPS: Ladder = Ladder {
+    firsts: 3,
+    seconds: 2,
+};
 
-impl Graph for Steps {
-    ghost shape = { λ _. record { firsts = 3; seconds = 2; joined = λ a b. nat_le b a } };
-
-    fn firsts(&self) -> usize {
-        3
-    }
-
-    fn seconds(&self) -> usize {
-        2
-    }
-
-    fn joins(&self, a: usize, b: usize) -> bool {
-        b <= a
-    }
-}
+const UNMARKED: Marks = Marks {
+    urgent: [false; 64],
+    full: [false; 16],
+};
 
 #[test]
 fn both_sides_are_served(rt: HostRuntime) -> Result<(), Fail> {
-    let mut marks = Marks {
-        urgent: [false; 64],
-        full: [false; 16],
-    };
+    let mut marks = UNMARKED;
     marks.urgent[0] = true;
     marks.full[1] = true;
     let mut out = Pairing::idle();
-    assert!(rt; UnionRule.pair(&Steps, &marks, &Pairing::idle(), &mut out));
+    assert!(rt; UnionRule.pair(&STEPS, &marks, &Pairing::idle(), &mut out));
     assert_eq!(rt; out.task_of(0), Some(0));
     assert!(rt; out.task_of(1).is_some());
     Ok(())
@@ -43,10 +30,10 @@ fn both_sides_are_served(rt: HostRuntime) -> Result<(), Fail> {
 fn three_urgent_tasks_are_too_many(rt: HostRuntime) -> Result<(), Fail> {
     let marks = Marks {
         urgent: [true; 64],
-        full: [false; 16],
+        ..UNMARKED
     };
     let mut out = Pairing::idle();
-    assert!(rt; !UnionRule.pair(&Steps, &marks, &Pairing::idle(), &mut out));
+    assert!(rt; !UnionRule.pair(&STEPS, &marks, &Pairing::idle(), &mut out));
     Ok(())
 }
 
@@ -62,18 +49,15 @@ fn a_task_stands_once(rt: HostRuntime) -> Result<(), Fail> {
 
 #[test]
 fn lower_numbers_first(rt: HostRuntime) -> Result<(), Fail> {
-    let mut marks = Marks {
-        urgent: [false; 64],
-        full: [false; 16],
-    };
+    let mut marks = UNMARKED;
     let rule = FirstRule {
         preference: ByNumber,
     };
     let mut out = Pairing::idle();
-    assert!(rt; rule.pair(&Steps, &marks, &Pairing::idle(), &mut out));
+    assert!(rt; rule.pair(&STEPS, &marks, &Pairing::idle(), &mut out));
     assert_eq!(rt; out.task_of(1), Some(1));
     marks.urgent[2] = true;
-    assert!(rt; rule.pair(&Steps, &marks, &Pairing::idle(), &mut out));
+    assert!(rt; rule.pair(&STEPS, &marks, &Pairing::idle(), &mut out));
     assert_eq!(rt; out.task_of(0), Some(0));
     assert_eq!(rt; out.task_of(1), Some(2));
     Ok(())

@@ -1,26 +1,8 @@
-ghost use Rattle.std.specs.Prelude.{◌==◌, nat_le};
+ghost use Rattle.std.specs.Prelude.{◌==◌};
 
+use crate::tests::ladders::Ladder;
 use graphs::{Graph, search};
 use std::test::*;
-
-// Node a is joined to each b of at most a.
-struct Ladder;
-
-impl Graph for Ladder {
-    ghost shape = { λ _. record { firsts = 64; seconds = 64; joined = λ a b. nat_le b a } };
-
-    fn firsts(&self) -> usize {
-        64
-    }
-
-    fn seconds(&self) -> usize {
-        64
-    }
-
-    fn joins(&self, a: usize, b: usize) -> bool {
-        b <= a
-    }
-}
 
 // Every node is joined to node 0 alone.
 struct Star;
@@ -43,7 +25,11 @@ impl Graph for Star {
 
 #[test]
 fn all_of_a_ladder(rt: HostRuntime) -> Result<(), Fail> {
-    let row = search(&Ladder, &[true; 64]).ok_or("no matching")?;
+    let ladder = Ladder {
+        firsts: 64,
+        seconds: 64,
+    };
+    let row = search(&ladder, &[true; 64]).ok_or("no matching")?;
     assert_eq!(rt; row[0], Some(0));
     assert_eq!(rt; row[63], Some(63));
     Ok(())
