@@ -3,7 +3,7 @@ ghost use Rattle.graphs.specs.Search.{Hops, Stale, Fresh, Exhausted, Onward, Ste
 
 use crate::sides::Graph;
 
-// The last edge of a way to a second-side node: from the start, or from the owner of another node.
+// The last edge of a way to a second-side node: from the start, or from the owner of another node, by its number.
 #[derive(Clone, Copy)]
 enum Hop {
     FromStart,

@@ -1,9 +1,11 @@
 ghost use Rattle.std.specs.Prelude.{◌≡◌};
-ghost use Rattle.graphs.specs.Graphs.{Shape, Small, turned};
+ghost use Rattle.graphs.specs.Graphs.{Shape, Small, turned, turned_small};
 
 /// A graph of two sides, with at most 64 nodes on each.
 pub trait Graph {
     ghost shape: { Self → Shape };
+
+    ghost few: { (g : Self) → Small (shape g) };
 
     /// How many nodes the first side has.
     fn firsts(&self) -> usize
@@ -23,6 +25,8 @@ pub trait Graph {
 // A graph behind a reference.
 impl<'a, G: Graph> Graph for &'a G {
     ghost shape = { λ g. G.Graph.shape g.now };
+
+    ghost few = { λ g. G.Graph.few g.now };
 
     fn firsts(&self) -> usize {
         (**self).firsts()
@@ -45,6 +49,8 @@ pub struct Turned<G> {
 
 impl<G: Graph> Graph for Turned<G> {
     ghost shape = { λ t. turned (G.Graph.shape t.graph) };
+
+    ghost few = { λ t. turned_small (G.Graph.few t.graph) };
 
     fn firsts(&self) -> usize {
         self.graph.seconds()

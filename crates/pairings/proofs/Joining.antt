@@ -70,8 +70,8 @@ module _ {g : Shape} {marks : Marking} {found found' : Row} (mt : Matched g mark
       put_task : (p t : ℕ) → (Own sides p → ⊥) → at tasks p ≡ Some t → at row p ≡ Some t
       put_task p t not_own h = is p (omega (arith, (edge_of_tasks p t h).1)) ∙ kept_task (side_at sides p) (at tasks p) (at own p) not_own ∙ h
 
-      put_own : (p t : ℕ) → Own sides p → at own p ≡ Some t → at row p ≡ Some t
-      put_own p t own_p h = is p (omega (arith, (edge_of_own p t h).1)) ∙ kept_own (side_at sides p) (at tasks p) (at own p) own_p ∙ h
+      keeps_own : (p t : ℕ) → Own sides p → at own p ≡ Some t → at row p ≡ Some t
+      keeps_own p t own_p h = is p (omega (arith, (edge_of_own p t h).1)) ∙ kept_own (side_at sides p) (at tasks p) (at own p) own_p ∙ h
 
       -- an entry is of the one matching or of the other
       put_from : (p t : ℕ) → at row p ≡ Some t → (Own sides p × (at own p ≡ Some t)) ⊎ ((Own sides p → ⊥) × (at tasks p ≡ Some t))
@@ -92,11 +92,11 @@ module _ {g : Shape} {marks : Marking} {found found' : Row} (mt : Matched g mark
             (λ w. ⊎_elim (λ v. absurd (cross q p t v.0 v.1 w.0 w.1)) (λ v. cc (ft.forth p t w.1, ft.forth q t v.1)) (put_from q t k))
             (put_from p t h);
         tasks = λ t l u. let (p, h) = mt.all t l u in let k = same_tasks p ∙ h in ⊎_elim
-            (λ own_p. let (r, o, y) = shut.back p t own_p (ft.forth p t k) in (r, put_own r t y o))
+            (λ own_p. let (r, o, y) = shut.back p t own_p (ft.forth p t k) in (r, keeps_own r t y o))
             (λ not_own. (p, put_task p t not_own k))
             (cases_own (side_at sides p));
         processors = λ p l u. ⊎_elim
-            (λ own_p. let (t, h) = mo.all p l u in (t, put_own p t own_p (fo.again p t (same_back t ∙ h))))
+            (λ own_p. let (t, h) = mo.all p l u in (t, keeps_own p t own_p (fo.again p t (same_back t ∙ h))))
             (λ not_own. served p (at tasks p) refl l not_own)
             (cases_own (side_at sides p));
       })

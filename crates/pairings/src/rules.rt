@@ -18,7 +18,7 @@ pub trait PairingRule {
     fn pair<G: Graph>(&self, graph: &G, marks: &Marks, before: &Pairing, out: &mut Pairing) -> bool
         ensures { Answers (admits self.now) (G.shape graph.now) (marking marks.now) before.now.row result out.new.row }
     {
-        // A flag with a pairing beside it, since a rule undertakes to write on a no as well: the idle one, which may be laid as it stands.
+        // A flag with a pairing beside it, since a rule undertakes to write on a no as well: the idle pairing.
         match self.choose(graph, marks, before) {
             Some(pairing) => {
                 *out = pairing;

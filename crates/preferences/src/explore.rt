@@ -5,7 +5,7 @@ use crate::trails::{NODES, POOL, Reach, Trail};
 use graphs::Graph;
 
 // That a trail is one of this search stands in the clauses: as a ghost field of the trail it would name the search, and each method would have to
-// say that the trail keeps its search. So does the room for one node more, which only the node that is followed has.
+// say that the trail keeps its search. `HasRoom` stands there too: only the node that is followed has it.
 impl<'a, G: Graph> Search<'a, G> {
     ghost use Rattle.graphs.specs.Graphs.{at};
     ghost use Rattle.pairings.specs.Rules.{marking};

@@ -44,7 +44,7 @@ impl<'a, G: Graph> Search<'a, G> {
         }
         while x != self.start {
             let reach = trail.nodes[x].unwrap();
-            let via = reach.via as usize;
+            let via = usize::from(reach.via);
             shift(&mut row, x, via, reach.by);
             x = via;
         }

@@ -1,7 +1,7 @@
 use Rattle.std.proofs.Common.{◌<◌, sym, ap, subst, ◌∙◌, arith}
 use Rattle.graphs.specs.Graphs.{Row}
 use Rattle.pairings.specs.Rules.{marking}
-use Rattle.preferences.specs.Reach.{Walk, reached, depth_of}
+use Rattle.preferences.specs.Reach.{Walk, Shifted, reached, depth_of}
 use Rattle.preferences.proofs.Reaching.{reached_some}
 use Rattle.preferences.proofs.Walking.{walk_held, walk_free, walk_step, walk_ends, lies_held, lies_free}
 use Rattle.preferences.proofs.search.Search.hand_over.Goals as goal
@@ -22,7 +22,7 @@ loop-x-init g c =
     ]
 
 pub loop-x-preserved : goal.loop-x-preserved
-loop-x-preserved g c = walk_step _ _ _ _ _ c.args.self.now.few _ c.requires.trailed.late _ _ c.loop-x.invariant c.loop-x-test.true _ c.unwrap-reach.ensures _ c.shift.ensures
+loop-x-preserved g c = rw c.from-via.ensures (walk_step _ _ _ _ _ c.args.self.now.few _ c.requires.trailed.late _ _ c.loop-x.invariant c.loop-x-test.true _ c.unwrap-reach.ensures _ (subst (λ y. Shifted c.loop-x.row c.loop-x.x y c.unwrap-reach.result.by c.shift.new.row) c.from-via.ensures c.shift.ensures))
 
 pub returns-clause-serving : goal.returns-clause-serving
 returns-clause-serving g c = walk_ends _ _ _ _ _ c.args.self.now.few _ c.requires.trailed.late _ (subst (Walk _ _ _ _ _ _ _) c.loop-x-test.false c.loop-x.invariant) c.requires.inside c.args.self.now.inside c.requires.edge
