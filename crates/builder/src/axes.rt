@@ -33,19 +33,12 @@ pub(crate) trait Lines {
             .sum()
     }
 
-    // Whether a line passes the frame; it is left as soon as it does. A loop, since the proof of a `try_fold` here did not close.
+    // Whether a line passes the frame.
     fn passes(&self, line: usize) -> bool
         requires { line < (load self.now).tasks }
         ensures { result ≡ nat_lt (load self.now).frame (task_total (load self.now) line) }
     {
-        let mut rest = self.frame();
-        for place in 0..self.places() {
-            let Some(less) = rest.checked_sub(self.ticks(line, place)) else {
-                return true;
-            };
-            rest = less;
-        }
-        false
+        self.total(line) > u64::from(self.frame())
     }
 
     // The lowest line that passes the frame.

@@ -1,7 +1,7 @@
 ghost use Rattle.std.specs.Prelude.{◌≡◌, ℕ, ◌≤◌};
 ghost use Rattle.sheets.specs.Cells.{cell};
 
-// The ticks that pairs still need, and the ticks of the frame to lay them in.
+// The ticks that pairs still need, and the ticks of the frame to lay them in. The table has a fixed size, since the library allocates nothing.
 #[derive(Clone, Copy)]
 pub(crate) struct Work {
     pub(crate) tasks: usize,

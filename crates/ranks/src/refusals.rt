@@ -4,17 +4,14 @@ ghost use Rattle.ranks.specs.Refusals.{number_of};
 /// Why a list of ranks is not taken.
 #[derive(Clone, Copy, PartialEq, Eq, Debug)]
 pub enum RankRefusal {
-    NotEachOnce,
+    NotEachOnce = 20,
 }
 
-// A method and no cast: a contract cannot read an enum's `as u8`.
 impl RankRefusal {
     /// The number that a refusal is known by.
     pub fn number(self) -> u8
         ensures { result ≡ number_of self }
     {
-        match self {
-            RankRefusal::NotEachOnce => 20,
-        }
+        self as u8
     }
 }

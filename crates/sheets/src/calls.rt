@@ -7,6 +7,7 @@ use crate::refusals::SheetRefusal;
 use crate::sheet::Sheet;
 use crate::size::{MOST, Size};
 use crate::table::Table;
+use crate::views::below;
 
 impl Sheet {
     /// One task, one processor, a frame of one tick, no load.
@@ -38,8 +39,12 @@ impl Sheet {
         ensures answer { result ≡ set_answer (load_of self.old) task processor ticks }
         ensures state { load_of self.new ≡ after_set (load_of self.old) task processor ticks }
     {
-        let task = self.task(task)?;
-        let processor = self.processor(processor)?;
+        let task = below(task, self.size.tasks, SheetRefusal::TaskOutOfRange)?;
+        let processor = below(
+            processor,
+            self.size.processors,
+            SheetRefusal::ProcessorOutOfRange,
+        )?;
         let 0..=MOST = ticks else {
             return Err(SheetRefusal::TicksOutOfRange);
         };
@@ -52,7 +57,7 @@ impl Sheet {
         ensures answer { result ≡ withdraw_answer (load_of self.old) task }
         ensures state { load_of self.new ≡ after_withdraw (load_of self.old) task }
     {
-        let task = self.task(task)?;
+        let task = below(task, self.size.tasks, SheetRefusal::TaskOutOfRange)?;
         self.table.clear_line(task);
         Ok(())
     }

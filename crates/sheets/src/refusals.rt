@@ -12,12 +12,12 @@ pub enum SizeRefusal {
 /// Which question of a call on a sheet failed.
 #[derive(Clone, Copy, PartialEq, Eq, Debug)]
 pub enum SheetRefusal {
-    TasksOutOfRange,
-    ProcessorsOutOfRange,
-    FrameOutOfRange,
-    TaskOutOfRange,
-    ProcessorOutOfRange,
-    TicksOutOfRange,
+    TasksOutOfRange = 1,
+    ProcessorsOutOfRange = 2,
+    FrameOutOfRange = 3,
+    TaskOutOfRange = 4,
+    ProcessorOutOfRange = 5,
+    TicksOutOfRange = 6,
 }
 
 impl From<SizeRefusal> for SheetRefusal {
@@ -32,19 +32,11 @@ impl From<SizeRefusal> for SheetRefusal {
     }
 }
 
-// A method and no cast: a contract cannot read an enum's `as u8`.
 impl SheetRefusal {
     /// The number that a refusal is known by.
     pub fn number(self) -> u8
         ensures { result ≡ number_of self }
     {
-        match self {
-            SheetRefusal::TasksOutOfRange => 1,
-            SheetRefusal::ProcessorsOutOfRange => 2,
-            SheetRefusal::FrameOutOfRange => 3,
-            SheetRefusal::TaskOutOfRange => 4,
-            SheetRefusal::ProcessorOutOfRange => 5,
-            SheetRefusal::TicksOutOfRange => 6,
-        }
+        self as u8
     }
 }

@@ -3,18 +3,20 @@ ghost use Rattle.std.specs.Prelude.{◌≡◌, ◌<◌};
 ghost use Rattle.sheets.specs.Cells.{cell, nothing, written, cleared};
 ghost use Rattle.sheets.specs.Tables.{tick_at};
 
+const NO_TICKS: [[u32; 16]; 64] = [[0; 16]; 64];
+
+// Fixed in size, since the library allocates nothing.
 #[derive(Clone, Copy)]
 pub(crate) struct Table {
     ticks: [[u32; 16]; 64],
 }
 
+// Each method requires that its index is inside; its caller has tested it.
 impl Table {
     pub(crate) fn blank() -> Table
         ensures { tick_at result ≡ nothing }
     {
-        Table {
-            ticks: [[0; 16]; 64],
-        }
+        Table { ticks: NO_TICKS }
     }
 
     pub(crate) fn at(&self, task: usize, processor: usize) -> u32
@@ -30,7 +32,7 @@ impl Table {
         requires processor_bound { processor < 16 }
         ensures { tick_at self.new ≡ written (tick_at self.old) task processor ticks }
     {
-        // The line is borrowed by itself: that tells the proof how long it is.
+        // In two steps: a line that is borrowed by itself is known to have 16 places.
         let line = &mut self.ticks[task];
         line[processor] = ticks;
     }
@@ -45,7 +47,7 @@ impl Table {
     pub(crate) fn clear(&mut self)
         ensures { tick_at self.new ≡ nothing }
     {
-        *self = Table::blank();
+        self.ticks = NO_TICKS;
     }
 
     pub(crate) fn lines(&self) -> [[u32; 16]; 64]

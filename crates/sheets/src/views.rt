@@ -3,19 +3,34 @@ ghost use Rattle.std.specs.Prelude.{◌≡◌, nat_lt, Ok};
 ghost use Rattle.sheets.specs.Calls.{asked, look_answer};
 ghost use Rattle.sheets.specs.Cells.{cell};
 ghost use Rattle.sheets.specs.Sheets.{load_of};
-ghost use Rattle.sheets.specs.declared.refusals.SheetRefusal.TheVariants.{TaskOutOfRange, ProcessorOutOfRange};
 
 use crate::refusals::SheetRefusal;
 use crate::sheet::Sheet;
 use crate::size::Size;
+
+// The index, where it is below the bound.
+pub(crate) fn below(
+    index: usize,
+    bound: usize,
+    refusal: SheetRefusal,
+) -> Result<usize, SheetRefusal>
+    ensures { result ≡ asked (nat_lt index bound) refusal (Ok index) }
+{
+    (index < bound).then_some(index).ok_or(refusal)
+}
 
 impl Sheet {
     /// The ticks of one pair.
     pub fn look(&self, task: usize, processor: usize) -> Result<u32, SheetRefusal>
         ensures { result ≡ look_answer (load_of self.now) task processor }
     {
-        let task = self.task(task)?;
-        let processor = self.processor(processor)?;
+        let size = self.size;
+        let task = below(task, size.tasks, SheetRefusal::TaskOutOfRange)?;
+        let processor = below(
+            processor,
+            size.processors,
+            SheetRefusal::ProcessorOutOfRange,
+        )?;
         Ok(self.table.at(task, processor))
     }
 
@@ -26,6 +41,7 @@ impl Sheet {
         self.size
     }
 
+    // The three numbers by name, too, a line each: a trait for sheets and templates would make a call longer.
     pub fn tasks(&self) -> usize
         ensures { result ≡ (load_of self.now).tasks }
     {
@@ -49,23 +65,5 @@ impl Sheet {
         ensures { cell result ≡ (load_of self.now).ticks }
     {
         self.table.lines()
-    }
-
-    // The task, where the sheet has it.
-    pub(crate) fn task(&self, task: usize) -> Result<usize, SheetRefusal>
-        ensures { result ≡ asked (nat_lt task (load_of self.now).tasks) TaskOutOfRange (Ok task) }
-    {
-        (task < self.size.tasks)
-            .then_some(task)
-            .ok_or(SheetRefusal::TaskOutOfRange)
-    }
-
-    // The processor, where the sheet has it.
-    pub(crate) fn processor(&self, processor: usize) -> Result<usize, SheetRefusal>
-        ensures { result ≡ asked (nat_lt processor (load_of self.now).processors) ProcessorOutOfRange (Ok processor) }
-    {
-        (processor < self.size.processors)
-            .then_some(processor)
-            .ok_or(SheetRefusal::ProcessorOutOfRange)
     }
 }

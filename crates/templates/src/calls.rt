@@ -16,6 +16,7 @@ impl Template {
     pub fn blank() -> Template
         ensures { layout_of result ≡ blank }
     {
+        // As a blank sheet's, and written out: three numbers are plainer than a name for them.
         Template {
             size: Size {
                 tasks: 1,

@@ -37,7 +37,7 @@ fn slot_asked(slot: &Slot, size: Size) -> Result<(), TemplateRefusal>
     Ok(())
 }
 
-// Asks each slot in order, then whether they add up to the frame.
+// Asks each slot of a list that adopt has counted, in order, then whether they add up to the frame.
 pub(crate) fn slots_asked(slots: &[Slot], size: Size) -> Result<(), TemplateRefusal>
     requires { length slots.now ≤ 1104 }
     ensures { result ≡ slots_answer size.tasks size.processors size.frame slots.now }

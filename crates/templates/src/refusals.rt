@@ -6,13 +6,13 @@ use sheets::SizeRefusal;
 /// Which question failed when a template was to adopt a list of slots.
 #[derive(Clone, Copy, PartialEq, Eq, Debug)]
 pub enum TemplateRefusal {
-    TasksOutOfRange,
-    ProcessorsOutOfRange,
-    FrameOutOfRange,
-    TooManySlots,
-    SlotTicksOutOfRange,
-    SlotPairsWrong,
-    SlotsDoNotAddUp,
+    TasksOutOfRange = 1,
+    ProcessorsOutOfRange = 2,
+    FrameOutOfRange = 3,
+    TooManySlots = 9,
+    SlotTicksOutOfRange = 10,
+    SlotPairsWrong = 11,
+    SlotsDoNotAddUp = 12,
 }
 
 impl From<SizeRefusal> for TemplateRefusal {
@@ -27,20 +27,11 @@ impl From<SizeRefusal> for TemplateRefusal {
     }
 }
 
-// A method and no cast: a contract cannot read an enum's `as u8`.
 impl TemplateRefusal {
     /// The number that a refusal is known by.
     pub fn number(self) -> u8
         ensures { result ≡ number_of self }
     {
-        match self {
-            TemplateRefusal::TasksOutOfRange => 1,
-            TemplateRefusal::ProcessorsOutOfRange => 2,
-            TemplateRefusal::FrameOutOfRange => 3,
-            TemplateRefusal::TooManySlots => 9,
-            TemplateRefusal::SlotTicksOutOfRange => 10,
-            TemplateRefusal::SlotPairsWrong => 11,
-            TemplateRefusal::SlotsDoNotAddUp => 12,
-        }
+        self as u8
     }
 }

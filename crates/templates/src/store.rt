@@ -5,7 +5,7 @@ use builder::Slot;
 
 pub(crate) const ROOM: usize = 1_104;
 
-// The table alone: a part of it can be lent, which beside a ghost field the borrow checker does not cover.
+// A type of its own: lending a part of a struct that has a ghost field is not covered by the borrow checker.
 #[derive(Clone, Copy)]
 struct Room {
     slots: [Slot; ROOM],

@@ -14,6 +14,7 @@ impl Template {
         self.size
     }
 
+    // The three numbers by name, too, a line each: a trait for sheets and templates would make a call longer.
     /// How many tasks its slots may name.
     pub fn tasks(&self) -> usize
         ensures { result ≡ (layout_of self.now).tasks }
