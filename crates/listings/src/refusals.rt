@@ -67,17 +67,14 @@ impl From<TemplateRefusal> for Refusal {
 /// Why nothing is listed.
 #[derive(Clone, Copy, PartialEq, Eq, Debug)]
 pub enum ListRefusal {
-    OutputTooShort,
+    OutputTooShort = 26,
 }
 
-// A method and no cast: a contract cannot read an enum's `as u8`.
 impl ListRefusal {
     /// The number that a refusal is known by.
     pub fn number(self) -> u8
         ensures { result ≡ list_number_of self }
     {
-        match self {
-            ListRefusal::OutputTooShort => 26,
-        }
+        self as u8
     }
 }

@@ -10,10 +10,10 @@ pub(crate) fn first_line(size: Size, slots: usize) -> Line
     ensures { result.bytes ≡ first_line size.tasks size.processors size.frame slots }
 {
     let mut line = Line::new();
-    push_field(&mut line, "frame ", u64::from(size.frame));
-    push_field(&mut line, " tasks ", size.tasks as u64);
-    push_field(&mut line, " processors ", size.processors as u64);
-    push_field(&mut line, " slots ", slots as u64);
+    push_field(&mut line, "frame ", size.frame);
+    push_field(&mut line, " tasks ", size.tasks);
+    push_field(&mut line, " processors ", size.processors);
+    push_field(&mut line, " slots ", slots);
     line.push_str("\n");
     line
 }
@@ -22,7 +22,7 @@ pub(crate) fn slot_line(size: Size, slot: &Slot) -> Line
     ensures { result.bytes ≡ slot_line size.processors slot.now }
 {
     let mut line = Line::new();
-    push_number(&mut line, u64::from(slot.ticks));
+    push_number(&mut line, slot.ticks);
     for entry in &slot.row[..size.processors] {
         push_entry(&mut line, *entry);
     }

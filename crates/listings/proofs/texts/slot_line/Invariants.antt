@@ -6,4 +6,4 @@ use Rattle.listings.proofs.texts.slot_line.Given as goal
 abbrev pub invariant-loop-entry : goal.invariant-loop-entry
 invariant-loop-entry l =
     (l.line.bytes ≡ decimal l.slot.ticks ++ entries_text l.slot.row l.entry-index)
-    × (array_string_len l.line ≤ 20 + 4 * l.entry-index)
+    × (array_string_len l.line ≤ 10 + 4 * l.entry-index)
