@@ -11,7 +11,7 @@ use crate::faults::{ByteFault, Fault, Layer, RecordFault};
 use crate::kinds::Kind;
 use sheets::Sheet;
 
-// Patterns name each byte of a record, so that a body's length is asked for once; here is the order of four of them.
+// Joins four bytes, which the patterns below name, so that a body's length needs no other test than its pattern.
 fn number(a: u8, b: u8, c: u8, d: u8) -> u32
     ensures { result ≡ big-end a b c d }
 {

@@ -17,6 +17,7 @@ pub(crate) fn answer<R: PairingRule>(
     ensures load { load_of sheet.new ≡ after (load_of sheet.old) call }
     ensures answer { AnsweredCall (R.PairingRule.admits rule.now) (load_of sheet.old) call room.old room.new result }
 {
+    // A match, since a script's calls are data, which the law on scripts reads; closures would hide them.
     match call {
         SheetCall::Open {
             tasks,

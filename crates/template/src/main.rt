@@ -9,6 +9,7 @@ use templates::Template;
 
 const FILE_BYTES: u64 = 65_536;
 
+// The program's own choice: as many slots as a template may have.
 const ROOM: usize = 1_104;
 // The longest listing has 65,187 bytes.
 const OUTPUT_BYTES: usize = 65_536;

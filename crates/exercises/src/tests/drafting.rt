@@ -1,6 +1,7 @@
 use builder::Slot;
 use drafts::list_draft;
 use std::alloc::{AllocError, Global};
+use std::array;
 use std::test::*;
 use templates::Template;
 
@@ -141,15 +142,12 @@ fn a_short_room_is_refused_and_an_ample_one_is_not(rt: HostRuntime) -> Result<()
 
 // One tick for each of 1,024 pairs.
 fn full_file(heap: Global) -> Result<Vec<u8>, AllocError> {
-    let mut file = Vec::new(heap);
-    push_record(&mut file, 0x01, 64, 16, 64)?;
-    for task in 0..64u8 {
-        for processor in 0..16u8 {
-            push_record(&mut file, 0x03, task, processor, 1)?;
-        }
-    }
-    file.push(0x06)?;
-    Ok(file)
+    let loads: [(u8, u8, u32); 1024] = array::from_fn(|pair| (
+        (pair / 16) as u8,
+        (pair % 16) as u8,
+        1,
+    ));
+    sheet_file(heap, 64, 16, 64, &loads)
 }
 
 // The ticks that a pair has in a list of slots.

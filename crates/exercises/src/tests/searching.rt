@@ -1,4 +1,5 @@
 ghost use Rattle.std.specs.Prelude.{◌==◌};
+ghost use Rattle.std.proofs.Common.{lit≤};
 
 use crate::tests::ladders::Ladder;
 use graphs::{Graph, search};
@@ -9,6 +10,8 @@ struct Star;
 
 impl Graph for Star {
     ghost shape = { λ _. record { firsts = 3; seconds = 2; joined = λ a b. (b == 0) } };
+
+    ghost few = { λ _. record { firsts_few = lit≤ tt; seconds_few = lit≤ tt } };
 
     fn firsts(&self) -> usize {
         3
