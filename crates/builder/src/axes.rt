@@ -19,6 +19,7 @@ pub(crate) trait Lines {
     fn frame(&self) -> u32
         ensures { result ≡ (load self.now).frame };
 
+    // That an index is inside is asked by each method, of its own argument; its caller has tested it.
     fn ticks(&self, line: usize, place: usize) -> u32
         requires line { line < (load self.now).tasks }
         requires place { place < (load self.now).processors }
@@ -57,6 +58,7 @@ pub(crate) trait Lines {
     {
         match mate {
             Some(place) => self.ticks(line, place),
+            // By `as`: proved to fit, and there is no `From` to a narrower type.
             None => self.frame() - self.total(line) as u32,
         }
     }

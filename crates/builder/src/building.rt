@@ -48,6 +48,7 @@ fn lay<R: PairingRule>(all: Left, rule: &R, room: &mut [Slot]) -> usize
     room.len()
 }
 
+// A count beside the room and no part of it: the call is public, and the room is the caller's.
 /// Writes slots that plan the sheet's load into the first places of the room, and says how many. A refusal leaves the room as it was.
 pub fn build<R: PairingRule>(
     sheet: &Sheet,

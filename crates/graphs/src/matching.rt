@@ -3,7 +3,8 @@ ghost use Rattle.graphs.specs.Search.{Hops, Stale, Fresh, Exhausted, Onward, Ste
 
 use crate::sides::Graph;
 
-// The last edge of a way to a second-side node: from the start, or from the owner of another node, by its number.
+// The last edge of a way to a second-side node: from the start, or from the owner of another node, by its number: nothing is
+// allocated, and the nodes of a graph are numbers.
 #[derive(Clone, Copy)]
 enum Hop {
     FromStart,
@@ -17,7 +18,7 @@ struct Trail {
     end: usize,
 }
 
-// A neighbour of the first-side node a that is not reached yet.
+// A neighbour of the first-side node a that is not reached yet. The three questions below are handed the graph and its two tables as they are.
 fn fresh<G: Graph>(graph: &G, a: usize, hops: &[Option<Hop>; 64]) -> Option<usize>
     ensures { MatchOption result (Stale (G.shape graph.now) hops.now a) (λ b. Fresh (G.shape graph.now) hops.now a b) }
 {

@@ -5,6 +5,7 @@ ghost use Rattle.graphs.specs.Graphs.{Shape, Small, turned, turned_small};
 pub trait Graph {
     ghost shape: { Self → Shape };
 
+    // What both counts promise, as a fact of the graph, so that nothing above has to repeat it.
     ghost few: { (g : Self) → Small (shape g) };
 
     /// How many nodes the first side has.

@@ -46,6 +46,7 @@ pub trait Listable {
     /// The bytes of the listing.
     ghost text: { Self → List ℕ };
 
+    // A length beside the output and no part of it: the call is public, and the output is the caller's.
     /// Writes the listing into the first places of the output, and says how long it is.
     fn list(&self, output: &mut [u8]) -> Result<usize, ListRefusal>
         ensures { Answered (text self.now) output.old output.new result };

@@ -14,6 +14,7 @@ pub(crate) struct Matching {
 }
 
 impl Matching {
+    // From either side, since a row that is known both ways is not read back twice.
     pub(crate) fn of_tasks(tasks: [Option<u8>; 16]) -> Matching
         requires { Distinct 64 tasks }
         ensures { result.tasks ≡ tasks }

@@ -21,6 +21,7 @@ impl Pairing {
         Pairing { row: [None; 16] }
     }
 
+    // A method and no `TryFrom`: it is public, and its name says what it is made from.
     /// The pairing with this row, unless a task stands in it twice or is 64 or more.
     pub fn from_row(row: [Option<u8>; 16]) -> Option<Pairing>
         ensures { MatchOption result (Paired row → ⊥) (λ q. q.row ≡ row) }

@@ -18,9 +18,11 @@ fn narrow<const N: usize>(row: &[Option<usize>; 64]) -> [Option<u8>; N]
     ensures wide { length result ≡ N }
     ensures same { (k : ℕ) → k < N → at result k ≡ at row.now k }
 {
+    // By `as`: proved to fit, and there is no `From` to a narrower type.
     array::from_fn(|k| row[k].map(|e| e as u8))
 }
 
+// The graph and its marks come apart, as `choose` is handed them.
 // A row that covers the marks: the two matchings joined, every second edge of each part of the union dropped.
 fn cover<G: Graph>(graph: &G, marks: &Marks) -> Option<[Option<u8>; 16]>
     ensures { MatchOption result ((other : Row) → Cover (G.shape graph.now) (marking marks.now) other → ⊥) (λ row. Cover (G.shape graph.now) (marking marks.now) row) }

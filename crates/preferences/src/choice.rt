@@ -22,7 +22,7 @@ impl<'a, G: Graph> Search<'a, G> {
     ghost use Rattle.graphs.specs.Graphs.{at};
     ghost use Rattle.preferences.specs.Reach.{node, reached, Chosen};
 
-    // The node at which a task lies.
+    // The node at which a task lies. That the task is inside is asked by each method, of its own argument.
     pub(crate) fn node_of(&self, task: usize) -> usize
         requires { task < 64 }
         ensures is { result ≡ node (at self.now.holder task) }
@@ -49,6 +49,7 @@ impl<'a, G: Graph> Search<'a, G> {
         ensures { Chosen (P.order preference.now) had (G.shape self.now.graph.now) self.now.holder (reached trail.now) self.now.start (G.shape self.now.graph.now).firsts result }
     {
         let mut best = None;
+        // By number: the best so far is compared with each task in turn, and a `reduce` would be no plainer.
         for task in 0..self.graph.firsts() {
             if self.at_hand(trail, task) && preferred(preference, self.start, had, task, best) {
                 best = Some(task);

@@ -28,6 +28,7 @@ impl<'a, G: Graph> Search<'a, G> {
             let depth = trail.nodes[y].unwrap().depth + 1;
             trail.nodes[x] = Some(Reach {
                 depth,
+                // By `as`, here and below: proved to fit, and there is no `From` to a narrower type.
                 via: y as u8,
                 by,
                 followed: false,
@@ -77,7 +78,7 @@ impl<'a, G: Graph> Search<'a, G> {
         }
     }
 
-    // A task that nobody holds and that is joined to the processor.
+    // A task that nobody holds and that is joined to the processor: one `find`, as graphs' search has one over its own table.
     fn loose(&self, q: usize) -> Option<usize>
         ensures { MatchOption result ((a : ℕ) → a < (G.shape self.now.graph.now).firsts → is_some (at self.now.holder a) ≡ false → (G.shape self.now.graph.now).joined a q ≢ true) (λ a. (a < (G.shape self.now.graph.now).firsts) × (a < 64) × (is_some (at self.now.holder a) ≡ false) × ((G.shape self.now.graph.now).joined a q ≡ true)) }
     {
@@ -105,7 +106,7 @@ impl<'a, G: Graph> Search<'a, G> {
         }
     }
 
-    // What a node leads to.
+    // What a node leads to. A test and no closures: the pool and a processor are its only two cases.
     fn expand(&self, x: usize, trail: &mut Trail)
         requires near { x < 17 }
         requires trailed { IsTrail self.now trail.old }

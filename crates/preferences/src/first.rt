@@ -18,6 +18,7 @@ pub struct FirstRule<P> {
 }
 
 impl<P: Preference> FirstRule<P> {
+    // The graph and its marks come apart, as `choose` is handed them.
     // Gives the processor the best task that a cover with the same entries before it can give.
     fn advance<G: Graph>(
         &self,

@@ -48,6 +48,7 @@ impl<'a, G: Graph> Search<'a, G> {
             shift(&mut row, x, via, reach.by);
             x = via;
         }
+        // By `as`: proved to fit, and there is no `From` to a narrower type.
         row[self.start] = Some(task as u8);
         row
     }

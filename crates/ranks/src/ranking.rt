@@ -13,6 +13,7 @@ impl RankList {
         ensures { (t : ℕ) → t < 64 → rank_of result.ranks t ≡ t }
     {
         RankList {
+            // By `as`: proved to fit, and there is no `From` to a narrower type.
             ranks: array::from_fn(|task| task as u8),
         }
     }

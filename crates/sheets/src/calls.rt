@@ -14,6 +14,7 @@ impl Sheet {
     pub fn blank() -> Sheet
         ensures { load_of result ≡ blank }
     {
+        // Written out: three numbers are plainer than a name for them.
         Sheet {
             size: Size {
                 tasks: 1,

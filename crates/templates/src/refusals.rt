@@ -3,6 +3,7 @@ ghost use Rattle.templates.specs.Refusals.{number_of, of_size};
 
 use sheets::SizeRefusal;
 
+// The cases of a size bear the names that they have in a sheet's refusals: both are public, and a number hangs on each.
 /// Which question failed when a template was to adopt a list of slots.
 #[derive(Clone, Copy, PartialEq, Eq, Debug)]
 pub enum TemplateRefusal {

@@ -21,7 +21,7 @@ pub(crate) struct Store {
 impl Room {
     ghost use Rattle.std.specs.Prelude.{◌≡◌, length, take};
 
-    // Writes these slots to the front.
+    // Writes these slots to the front; adopt has counted them.
     fn write(&mut self, slots: &[Slot])
         requires { length slots.now ≤ 1104 }
         ensures { take (length slots.now) self.new.slots ≡ slots.now }

@@ -14,6 +14,7 @@ const IDLE: Slot = Slot {
     row: [None; 16],
 };
 
+// A record by the byte of its kind: a test writes the bytes of the format, and the reader's kinds are its own.
 fn push_record(
     file: &mut Vec<u8>,
     kind: u8,
@@ -142,6 +143,7 @@ fn a_short_room_is_refused_and_an_ample_one_is_not(rt: HostRuntime) -> Result<()
 
 // One tick for each of 1,024 pairs.
 fn full_file(heap: Global) -> Result<Vec<u8>, AllocError> {
+    // By `as`: proved to fit, and there is no `From` to a narrower type.
     let loads: [(u8, u8, u32); 1024] = array::from_fn(|pair| (
         (pair / 16) as u8,
         (pair % 16) as u8,

@@ -25,6 +25,7 @@ fn a_repeated_rank_is_refused_and_changes_nothing(rt: HostRuntime) -> Result<(),
 #[test]
 fn ranks_turned_round_turn_the_preference(rt: HostRuntime) -> Result<(), Fail> {
     let mut list = RankList::by_number();
+    // By `as`: proved to fit, and there is no `From` to a narrower type.
     let turned = array::from_fn(|task| 63 - task as u8);
     assert_eq!(rt; list.replace(turned), Ok(()));
     assert!(rt; ByRank { list: &list }.comes_before(0, None, 4, 3));
