@@ -18,7 +18,8 @@ struct Trail {
     end: usize,
 }
 
-// A neighbour of the first-side node a that is not reached yet. The three questions below are handed the graph and its two tables as they are.
+// A neighbour of the first-side node a that is not reached yet. The owners and the hops are handed apart, since
+// hops are written between two questions.
 fn fresh<G: Graph>(graph: &G, a: usize, hops: &[Option<Hop>; 64]) -> Option<usize>
     ensures { MatchOption result (Stale (G.shape graph.now) hops.now a) (λ b. Fresh (G.shape graph.now) hops.now a b) }
 {

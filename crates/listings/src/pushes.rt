@@ -1,5 +1,5 @@
 // A line is made from its start: words and numbers one after another.
-// They are pushed and not printed by `write!`: that promises nothing where it errs, so that a line has room for all of it can't be shown through it.
+// They are pushed and not printed by `write!`, whose contract says nothing of a line where it errs.
 ghost use Rattle.std.specs.Prelude.{◌≡◌, ◌+◌, ◌≤◌, ◌++◌, length};
 ghost use Rattle.arrayvec.specs.ArrayString.{array_string_len};
 ghost use Rattle.listings.specs.Listing.{entry_text};

@@ -78,7 +78,7 @@ impl<'a, G: Graph> Search<'a, G> {
         }
     }
 
-    // A task that nobody holds and that is joined to the processor: one `find`, as graphs' search has one over its own table.
+    // A task that nobody holds and that is joined to the processor. Like the search's `fresh`, one `find` over a table of its own.
     fn loose(&self, q: usize) -> Option<usize>
         ensures { MatchOption result ((a : ℕ) → a < (G.shape self.now.graph.now).firsts → is_some (at self.now.holder a) ≡ false → (G.shape self.now.graph.now).joined a q ≢ true) (λ a. (a < (G.shape self.now.graph.now).firsts) × (a < 64) × (is_some (at self.now.holder a) ≡ false) × ((G.shape self.now.graph.now).joined a q ≡ true)) }
     {

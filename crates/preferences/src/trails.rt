@@ -6,9 +6,8 @@ pub(crate) const POOL: usize = 16;
 
 pub(crate) const NODES: usize = POOL + 1;
 
-// The start's own `via` and `by` are never read, and the depth is for the proof that a way back ends: one type for every node keeps the table one.
-// How a node was reached: over how many nodes, from which of them (by its number, as nothing is allocated), and with which task on the way back. The numbers are bytes: with wider ones
-// the build of a full sheet took about 8 % longer.
+// How a node was reached: over how many nodes, from which of them, by its number, and with which task on the way back. The start's `via` and
+// `by` go unread, and only the proof reads the depth. In bytes, since a full sheet took about 8 % longer with wider numbers.
 #[derive(Clone, Copy)]
 pub(crate) struct Reach {
     pub(crate) depth: u8,

@@ -4,9 +4,9 @@ use graphs::Graph;
 
 // Node a of the first side is joined to each b of at most a.
 #[derive(Clone, Copy)]
-pub struct Ladder {
-    pub firsts: usize,
-    pub seconds: usize,
+pub(crate) struct Ladder {
+    pub(crate) firsts: usize,
+    pub(crate) seconds: usize,
     ghost firsts_few: { firsts ≤ 64 },
     ghost seconds_few: { seconds ≤ 64 },
 }
