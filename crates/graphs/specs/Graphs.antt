@@ -17,9 +17,6 @@ pub record Small (g : Shape) : Type 0 where
 abbrev pub turned : Shape → Shape
 turned g = record { firsts = g.seconds; seconds = g.firsts; joined = λ a b. g.joined b a }
 
-pub turned_small : {g : Shape} → Small g → Small (turned g)
-turned_small s = record { firsts_few = s.seconds_few; seconds_few = s.firsts_few }
-
 -- the second-side nodes that an edge joins to a member of the set
 abbrev pub neighbour : Shape → (ℕ → Bool) → ℕ → Bool
 neighbour g members b = any_below g.firsts (λ a. members a && g.joined a b)

@@ -1,12 +1,9 @@
 ghost use Rattle.std.specs.Prelude.{◌≡◌};
-ghost use Rattle.graphs.specs.Graphs.{Shape, Small, turned, turned_small};
+ghost use Rattle.graphs.specs.Graphs.{Shape, Small, turned};
 
 /// A graph of two sides, with at most 64 nodes on each.
 pub trait Graph {
     ghost shape: { Self → Shape };
-
-    // What both counts promise, as a fact of the graph, so that nothing above has to repeat it.
-    ghost few: { (g : Self) → Small (shape g) };
 
     /// How many nodes the first side has.
     fn firsts(&self) -> usize
@@ -26,8 +23,6 @@ pub trait Graph {
 // A graph behind a reference.
 impl<'a, G: Graph> Graph for &'a G {
     ghost shape = { λ g. G.Graph.shape g.now };
-
-    ghost few = { λ g. G.Graph.few g.now };
 
     fn firsts(&self) -> usize {
         (**self).firsts()
@@ -50,8 +45,6 @@ pub struct Turned<G> {
 
 impl<G: Graph> Graph for Turned<G> {
     ghost shape = { λ t. turned (G.Graph.shape t.graph) };
-
-    ghost few = { λ t. turned_small (G.Graph.few t.graph) };
 
     fn firsts(&self) -> usize {
         self.graph.seconds()

@@ -1,5 +1,5 @@
 ghost use Rattle.std.specs.Prelude.{◌≡◌, ℕ, ◌<◌, ◌≤◌, length, Some, MatchOption};
-ghost use Rattle.graphs.specs.Graphs.{Row, at};
+ghost use Rattle.graphs.specs.Graphs.{Small, Row, at};
 ghost use Rattle.graphs.specs.Covers.{Cover};
 ghost use Rattle.pairings.specs.Rules.{marking};
 
@@ -25,7 +25,8 @@ fn narrow<const N: usize>(row: &[Option<usize>; 64]) -> [Option<u8>; N]
 // The graph and its marks come apart, as `choose` is handed them.
 // A row that covers the marks: the two matchings joined, every second edge of each part of the union dropped.
 fn cover<G: Graph>(graph: &G, marks: &Marks) -> Option<[Option<u8>; 16]>
-    ensures { MatchOption result ((other : Row) → Cover (G.shape graph.now) (marking marks.now) other → ⊥) (λ row. Cover (G.shape graph.now) (marking marks.now) row) }
+    ensures answer { MatchOption result ((other : Row) → Cover (G.shape graph.now) (marking marks.now) other → ⊥) (λ row. Cover (G.shape graph.now) (marking marks.now) row) }
+    ensures small { Small (G.shape graph.now) }
 {
     if graph.seconds() > 16 {
         return None;

@@ -1,5 +1,5 @@
 ghost use Rattle.std.specs.Prelude.{◌<◌, ◌≤◌, Some};
-ghost use Rattle.graphs.specs.Graphs.{at};
+ghost use Rattle.graphs.specs.Graphs.{Small, at};
 ghost use Rattle.graphs.specs.Covers.{Cover};
 ghost use Rattle.pairings.specs.Rules.{marking};
 ghost use Rattle.pairings.specs.Servings.{Serving};
@@ -28,6 +28,7 @@ impl<P: Preference> FirstRule<P> {
         p: usize,
         row: &mut [Option<u8>; 16],
     )
+        requires small { Small (G.shape graph.now) }
         requires few { (G.shape graph.now).seconds ≤ 16 }
         requires inside { p < (G.shape graph.now).seconds }
         requires serving { Serving (G.shape graph.now) (marking marks.now).urgent (marking marks.now).full (at row.old) }
@@ -55,7 +56,8 @@ impl<P: Preference> FirstRule<P> {
         cover: [Option<u8>; 16],
     ) -> [Option<u8>; 16]
         requires { Cover (G.shape graph.now) (marking marks.now) cover }
-        ensures { First (P.order self.now.preference) (G.shape graph.now) (marking marks.now) before.now.row result }
+        ensures first { First (P.order self.now.preference) (G.shape graph.now) (marking marks.now) before.now.row result }
+        ensures small { Small (G.shape graph.now) }
     {
         let mut row = cover;
         for p in 0..graph.seconds() {

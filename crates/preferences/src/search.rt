@@ -1,5 +1,5 @@
 ghost use Rattle.std.specs.Prelude.{◌≡◌, ℕ, ◌<◌, ◌≤◌, length, Some};
-ghost use Rattle.graphs.specs.Graphs.{at};
+ghost use Rattle.graphs.specs.Graphs.{Small, at};
 ghost use Rattle.pairings.specs.Flips.{Flipped};
 ghost use Rattle.std.proofs.Props.{props};
 
@@ -14,6 +14,7 @@ pub(crate) struct Search<'a, G: Graph> {
     pub(crate) row: &'a [Option<u8>; 16],
     pub(crate) holder: [Option<u8>; 64],
     pub(crate) start: usize,
+    pub(crate) ghost small: { Small (G.shape graph.now) },
     pub(crate) ghost few: { (G.shape graph.now).seconds ≤ 16 },
     pub(crate) ghost inside: { start < (G.shape graph.now).seconds },
     pub(crate) ghost wide: { length row.now ≡ 16 },

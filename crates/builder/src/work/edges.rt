@@ -1,5 +1,5 @@
 ghost use Rattle.plans.specs.Remaining.{graph};
-ghost use Rattle.builder.specs.Lefts.{work_of, work_small};
+ghost use Rattle.builder.specs.Lefts.{work_of};
 
 use crate::work::Work;
 use graphs::Graph;
@@ -7,8 +7,6 @@ use graphs::Graph;
 // An edge is a pair with ticks left.
 impl Graph for Work {
     ghost shape = { λ s. graph (work_of s) };
-
-    ghost few = { work_small };
 
     fn firsts(&self) -> usize {
         self.tasks

@@ -14,8 +14,6 @@ pub(crate) struct Ladder {
 impl Graph for Ladder {
     ghost shape = { λ g. record { firsts = g.firsts; seconds = g.seconds; joined = λ a b. nat_le b a } };
 
-    ghost few = { λ g. record { firsts_few = g.firsts_few; seconds_few = g.seconds_few } };
-
     fn firsts(&self) -> usize {
         self.firsts
     }

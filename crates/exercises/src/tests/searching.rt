@@ -1,5 +1,4 @@
 ghost use Rattle.std.specs.Prelude.{◌==◌};
-ghost use Rattle.std.proofs.Common.{lit≤};
 
 use crate::tests::ladders::Ladder;
 use graphs::{Graph, search};
@@ -10,8 +9,6 @@ struct Star;
 
 impl Graph for Star {
     ghost shape = { λ _. record { firsts = 3; seconds = 2; joined = λ a b. (b == 0) } };
-
-    ghost few = { λ _. record { firsts_few = lit≤ tt; seconds_few = lit≤ tt } };
 
     fn firsts(&self) -> usize {
         3

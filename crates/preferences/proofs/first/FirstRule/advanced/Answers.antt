@@ -6,4 +6,7 @@ pub loop-p-init : goal.loop-p-init
 loop-p-init g c = leading_none _ _ _ _ _ c.requires
 
 pub returns : goal.returns
-returns g c = leading_all _ _ _ _ _ _ c.requires.few (omega (arith, c.seconds-p-end.ensures, c.loop-p-test.false)) c.loop-p.invariant
+returns g c = record {
+  first = leading_all _ _ _ _ _ _ c.requires.few (omega (arith, c.seconds-p-end.ensures.is, c.loop-p-test.false)) c.loop-p.invariant;
+  small = c.seconds-p-end.ensures.small;
+}

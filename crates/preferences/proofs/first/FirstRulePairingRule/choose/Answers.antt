@@ -5,5 +5,5 @@ use Rattle.preferences.proofs.first.FirstRulePairingRule.choose.Goals as goal
 
 pub returns : goal.returns
 returns g c =
-    let first = c.advanced-row.ensures in
-    chosen (λ h marks before row. First (g.P.Preference.order c.args.self.now.preference) h marks before row) _ _ _ _ c.from_row.result (cover_paired _ _ _ (g.G.Graph.few c.args.graph.now) first.cover) first c.from_row.ensures
+    let first = c.advanced-row.ensures.first in
+    chosen (λ h marks before row. First (g.P.Preference.order c.args.self.now.preference) h marks before row) _ _ _ _ c.from_row.result (cover_paired _ _ _ c.advanced-row.ensures.small first.cover) first c.from_row.ensures

@@ -8,10 +8,10 @@ pub loop-task-preserved : goal.loop-task-preserved
 loop-task-preserved g c =
     let s = c.args.self.now in
     let w = c.loop-task.invariant in
-    let small = g.G.Graph.few s.graph.now in
+    let small = c.firsts-task-end.ensures.small in
     let order = g.P.Preference.order c.args.preference.now in
     let at_trail = reached c.args.trail.now in
-    let inside : c.loop-task.task < (g.G.Graph.shape s.graph.now).firsts = omega (arith, c.loop-task-test.true, c.firsts-task-end.ensures) in
+    let inside : c.loop-task.task < (g.G.Graph.shape s.graph.now).firsts = omega (arith, c.loop-task-test.true, c.firsts-task-end.ensures.is) in
     let prefers = g.P.Preference.preferring c.args.preference.now in
     let Next : Option ℕ → Type 0 = λ o. Chosen order c.args.had (g.G.Graph.shape s.graph.now) s.holder at_trail s.start (c.loop-task.task + 1) o in
     elim c.if-at_hand.branch [
