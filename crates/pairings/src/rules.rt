@@ -10,24 +10,20 @@ pub trait PairingRule {
 
     ghost covering: { (r : Self) → Covering (admits r) };
 
+    // A flag with a pairing beside it, since a rule undertakes to write on a no as well: the idle pairing.
+    /// Writes a pairing of the graph's edges that the rule admits, or an idle one where none covers the marks.
+    fn pair<G: Graph>(&self, graph: &G, marks: &Marks, before: &Pairing, out: &mut Pairing) -> bool
+        ensures { Answers (admits self.now) (G.shape graph.now) (marking marks.now) before.now.row result out.new.row };
+
     /// A pairing of the graph's edges that the rule admits; none exactly where no pairing covers the marks.
     fn choose<G: Graph>(&self, graph: &G, marks: &Marks, before: &Pairing) -> Option<Pairing>
-        ensures { Chooses (admits self.now) (G.shape graph.now) (marking marks.now) before.now.row result };
-
-    /// Writes what the rule chooses, or an idle pairing where none covers the marks.
-    fn pair<G: Graph>(&self, graph: &G, marks: &Marks, before: &Pairing, out: &mut Pairing) -> bool
-        ensures { Answers (admits self.now) (G.shape graph.now) (marking marks.now) before.now.row result out.new.row }
+        ensures { Chooses (admits self.now) (G.shape graph.now) (marking marks.now) before.now.row result }
     {
-        // A flag with a pairing beside it, since a rule undertakes to write on a no as well: the idle pairing.
-        match self.choose(graph, marks, before) {
-            Some(pairing) => {
-                *out = pairing;
-                true
-            }
-            None => {
-                *out = Pairing::idle();
-                false
-            }
+        let mut out = Pairing::idle();
+        if self.pair(graph, marks, before, &mut out) {
+            Some(out)
+        } else {
+            None
         }
     }
 }

@@ -50,6 +50,19 @@ impl PairingRule for UnionRule {
 
     ghost covering = { λ _ g marks before row h. h };
 
+    fn pair<G: Graph>(
+        &self,
+        graph: &G,
+        marks: &Marks,
+        before: &Pairing,
+        out: &mut Pairing,
+    ) -> bool {
+        let chosen = self.choose(graph, marks, before);
+        *out = chosen.unwrap_or(Pairing::idle());
+        chosen.is_some()
+    }
+
+    // By itself and not over `pair`, which stands on it here.
     fn choose<G: Graph>(&self, graph: &G, marks: &Marks, _before: &Pairing) -> Option<Pairing> {
         let row = cover(graph, marks)?;
         Some(Pairing::sound(row))

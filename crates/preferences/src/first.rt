@@ -72,6 +72,19 @@ impl<P: Preference> PairingRule for FirstRule<P> {
 
     ghost covering = { λ r g marks before row h. h.cover };
 
+    fn pair<G: Graph>(
+        &self,
+        graph: &G,
+        marks: &Marks,
+        before: &Pairing,
+        out: &mut Pairing,
+    ) -> bool {
+        let chosen = self.choose(graph, marks, before);
+        *out = chosen.unwrap_or(Pairing::idle());
+        chosen.is_some()
+    }
+
+    // By itself and not over `pair`, which stands on it here.
     fn choose<G: Graph>(&self, graph: &G, marks: &Marks, before: &Pairing) -> Option<Pairing> {
         let cover = UnionRule.choose(graph, marks, before)?;
         let row = self.advanced(graph, marks, before, cover.row());
