@@ -11,6 +11,7 @@ use Rattle.pairings.specs.declared.walks.Side.{Side}
 use Rattle.pairings.specs.declared.walks.Side.TheVariants.{Task, Processor}
 use Rattle.pairings.specs.Union.{Sides, side_at, Own, kept, Joint, Shut, EndsOwn}
 use Rattle.pairings.proofs.Flipping.{inside, flip_below, flip_within}
+use Rattle.pairings.specs.Servings.{Serving}
 use Rattle.pairings.proofs.Servings.{nobody, serving_cover}
 
 -- the two matchings of the union, each by processor and by task
@@ -40,15 +41,15 @@ module _ {g : Shape} {marked : ℕ → Bool} {k : ℕ} {found : Row} (f : Matche
       apart = λ b c a h i. f.apart b c a (cc (found_same b)) (cc (found_same c));
     }
 
-cases_own : (o : Option Side) → (o ≡ Some Processor) ⊎ (o ≡ Some Processor → ⊥)
+pub cases_own : (o : Option Side) → (o ≡ Some Processor) ⊎ (o ≡ Some Processor → ⊥)
 cases_own None = inr (λ e. cc)
 cases_own (Some Task) = inr (λ e. cc)
 cases_own (Some Processor) = inl refl
 
-kept_own : (o : Option Side) (a b : Option ℕ) → o ≡ Some Processor → kept o a b ≡ b
+pub kept_own : (o : Option Side) (a b : Option ℕ) → o ≡ Some Processor → kept o a b ≡ b
 kept_own o a b e = ap (λ x. kept x a b) e
 
-kept_task : (o : Option Side) (a b : Option ℕ) → (o ≡ Some Processor → ⊥) → kept o a b ≡ a
+pub kept_task : (o : Option Side) (a b : Option ℕ) → (o ≡ Some Processor → ⊥) → kept o a b ≡ a
 kept_task None a b h = refl
 kept_task (Some Task) a b h = refl
 kept_task (Some Processor) a b h = absurd (h refl)
@@ -84,8 +85,8 @@ module _ {g : Shape} {marks : Marking} {found found' : Row} (mt : Matched g mark
       served p None e l not_own = absurd (not_own (ends p (omega arith) e))
       served p (Some t) e l not_own = (t, put_task p t not_own e)
 
-      pub union_cover : g.seconds ≤ 16 → length row ≡ 16 → Cover g marks row
-      union_cover sixteen short = serving_cover g marks row sixteen short (record {
+      pub union_serving : Serving g marks.urgent marks.full (at row)
+      union_serving = record {
         edges = λ p t h. ⊎_elim (λ w. edge_of_own p t w.1) (λ w. edge_of_tasks p t w.1) (put_from p t h);
         apart = λ p q t h k. ⊎_elim
             (λ w. ⊎_elim (λ v. cc (fo.forth p t w.1, fo.forth q t v.1)) (λ v. absurd (cross p q t w.0 w.1 v.0 v.1)) (put_from q t k))
@@ -99,4 +100,7 @@ module _ {g : Shape} {marks : Marking} {found found' : Row} (mt : Matched g mark
             (λ own_p. let (t, h) = mo.all p l u in (t, keeps_own p t own_p (fo.again p t (same_back t ∙ h))))
             (λ not_own. served p (at tasks p) refl l not_own)
             (cases_own (side_at sides p));
-      })
+      }
+
+      pub union_cover : g.seconds ≤ 16 → length row ≡ 16 → Cover g marks row
+      union_cover sixteen short = serving_cover g marks row sixteen short union_serving

@@ -10,7 +10,7 @@ use Rattle.pairings.specs.declared.walks.Side.{Side}
 use Rattle.pairings.specs.declared.walks.Side.TheVariants.{Task, Processor}
 use Rattle.pairings.specs.Union.{Sides, side_at, Own, differs, others, Joint, Leads, Shut, Walked, Grows}
 
-same_side : (s : Side) → differs s (Some s) ≡ false
+pub same_side : (s : Side) → differs s (Some s) ≡ false
 same_side Task = refl
 same_side Processor = refl
 
@@ -82,7 +82,7 @@ module _ {m n : ℕ} {own holder : Row} (j : Joint m n own holder) where
       grows = grows_put sides start fits s free
 
   module _ {sides : Sides} {s : Side} {p : ℕ} (w : Walked n own holder sides s p) where
-    one_way : (q r : ℕ) → Leads own holder p q → Leads own holder p r → r ≡ q
+    pub one_way : (q r : ℕ) → Leads own holder p q → Leads own holder p r → r ≡ q
     one_way q r (t, o, h) (t', o', h') = let same : t ≡ t' = cc in cc
 
     pub walk_ends : ((q : ℕ) → Own sides p → Leads own holder p q → Own sides q) → Shut n own holder sides
@@ -103,7 +103,7 @@ module _ {m n : ℕ} {own holder : Row} (j : Joint m n own holder) where
       lead_fits = omega (arith, lead_near, w.wide)
 
       -- the task matching is kept only where no own edge leads in from what keeps its own
-      lead_open : s ≡ Task → Own sides q → ⊥
+      pub lead_open : s ≡ Task → Own sides q → ⊥
       lead_open e k = let (r, m, o) = w.back q lead.0 k lead.2 in w.not_here e (subst (Own sides) (j.apart_own r p lead.0 m lead.1) o)
 
       pub walk_grows : Grows sides (set sides q (Some s))

@@ -56,7 +56,7 @@ ended s last at k body clean w s' e =
     let m = s.processors in
     rw (q.0, q.1, ← q.2, skip s.ticks n m n 0 last clean w (last_within n m last w), append-nil (rows_bytes s.ticks m n)) refl
 
-accepted_loads : (s : Load) (last : Option (ℕ × ℕ)) (at : ℕ) (bs : List ℕ) → ((i : ℕ) → get_or bs i 0 < 256) → Clean s.ticks last → Within s.tasks s.processors last → (s' : Load) → read_loads s last at bs ≡ Ok s' → all_bytes s last bs ≡ sheet_bytes s'
+pub accepted_loads : (s : Load) (last : Option (ℕ × ℕ)) (at : ℕ) (bs : List ℕ) → ((i : ℕ) → get_or bs i 0 < 256) → Clean s.ticks last → Within s.tasks s.processors last → (s' : Load) → read_loads s last at bs ≡ Ok s' → all_bytes s last bs ≡ sheet_bytes s'
 accepted_loads s last at [] small clean w s' e = cc
 accepted_loads s last at (k ∷ []) small clean w s' e = ended s last at k [] clean w s' e
 accepted_loads s last at (k ∷ t ∷ []) small clean w s' e = ended s last at k (t ∷ []) clean w s' e

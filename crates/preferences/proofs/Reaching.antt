@@ -92,7 +92,7 @@ module _ (t : Trail) (x y d : ℕ) (by : Option ℕ) (near : x < 17) (wide : len
   others : (z : ℕ) → (z ≡ x → ⊥) → reach_at grown z ≡ reach_at t z
   others z ne = get_or-set_other t.nodes x z (Some (record { depth = d; via = y; by = by; followed = false })) None ne
 
-  was_not : (z : ℕ) → 0 < depth_of t z → z ≡ x → ⊥
+  pub was_not : (z : ℕ) → 0 < depth_of t z → z ≡ x → ⊥
   was_not z pos e = omega (arith, ap (depth_of t) e, (unreached t x new).0)
 
   pub grown_more : More t grown

@@ -1,4 +1,5 @@
 ghost use Rattle.std.specs.Prelude.{◌≡◌};
+ghost use Rattle.rehearsal.specs.Numbers.{number_of};
 ghost use Rattle.rehearsal.specs.declared.calls.CallRefusal.TheVariants.{Sheet, Build};
 
 use builder::BuildRefusal;
@@ -34,6 +35,18 @@ pub type CallAnswer = Result<Option<usize>, CallRefusal>;
 pub enum CallRefusal {
     Sheet(SheetRefusal),
     Build(BuildRefusal),
+}
+
+impl CallRefusal {
+    /// The number that a refusal is known by.
+    pub fn number(self) -> u8
+        ensures { result ≡ number_of self }
+    {
+        match self {
+            Self::Sheet(refusal) => refusal.number(),
+            Self::Build(refusal) => refusal.number(),
+        }
+    }
 }
 
 impl From<SheetRefusal> for CallRefusal {

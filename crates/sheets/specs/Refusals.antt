@@ -1,4 +1,4 @@
--- The number of each refusal of a sheet, and the refusal of a sheet for each of a size.
+-- The number of each refusal of a sheet and of a size, and the refusal of a sheet for each of a size.
 use Rattle.std.specs.Prelude.{ℕ}
 use Rattle.sheets.specs.declared.refusals.SheetRefusal.{SheetRefusal}
 use Rattle.sheets.specs.declared.refusals.SizeRefusal.{SizeRefusal}
@@ -17,3 +17,6 @@ abbrev pub of_size : SizeRefusal → SheetRefusal
 of_size TasksWrong = TasksOutOfRange
 of_size ProcessorsWrong = ProcessorsOutOfRange
 of_size FrameWrong = FrameOutOfRange
+
+abbrev pub size_number_of : SizeRefusal → ℕ
+size_number_of refusal = number_of (of_size refusal)

@@ -1,5 +1,5 @@
 ghost use Rattle.std.specs.Prelude.{◌≡◌};
-ghost use Rattle.sheets.specs.Refusals.{number_of, of_size};
+ghost use Rattle.sheets.specs.Refusals.{number_of, size_number_of, of_size};
 
 /// Which number of a size is out of range.
 #[derive(Clone, Copy, PartialEq, Eq, Debug)]
@@ -29,6 +29,15 @@ impl From<SizeRefusal> for SheetRefusal {
             SizeRefusal::ProcessorsOutOfRange => SheetRefusal::ProcessorsOutOfRange,
             SizeRefusal::FrameOutOfRange => SheetRefusal::FrameOutOfRange,
         }
+    }
+}
+
+impl SizeRefusal {
+    /// The number that a refusal is known by: that of the sheet's refusal of this name.
+    pub fn number(self) -> u8
+        ensures { result ≡ size_number_of self }
+    {
+        SheetRefusal::from(self).number()
     }
 }
 
