@@ -7,7 +7,7 @@ pub(crate) const POOL: usize = 16;
 pub(crate) const NODES: usize = POOL + 1;
 
 // How a node was reached: over how many nodes, from which of them, by its number, and with which task on the way back. The start's `via` and
-// `by` go unread, and only the proof reads the depth. In bytes, since a full sheet took about 8 % longer with wider numbers.
+// `by` go unread, and the depth serves the proof alone. In bytes, since a full sheet took about 8 % longer with wider numbers.
 #[derive(Clone, Copy)]
 pub(crate) struct Reach {
     pub(crate) depth: u8,
