@@ -1,4 +1,7 @@
+ghost use Rattle.graphs.specs.Covers.{Cover};
+
 use crate::tests::ladders::Ladder;
+use graphs::Graph;
 use pairings::{Marks, Pairing, PairingRule, UnionRule};
 use preferences::{ByNumber, FirstRule};
 use std::test::*;
@@ -60,5 +63,35 @@ fn lower_numbers_first(rt: HostRuntime) -> Result<(), Fail> {
     assert!(rt; rule.pair(&STEPS, &marks, &Pairing::idle(), &mut out));
     assert_eq!(rt; out.task_of(0), Some(0));
     assert_eq!(rt; out.task_of(1), Some(2));
+    Ok(())
+}
+
+// A rule of a user's own, which writes `pair` alone.
+struct Forwarded;
+
+impl PairingRule for Forwarded {
+    ghost admits = { λ _ g marks before row. Cover g marks row };
+
+    ghost covering = { λ _ g marks before row h. h };
+
+    fn pair<G: Graph>(
+        &self,
+        graph: &G,
+        marks: &Marks,
+        before: &Pairing,
+        out: &mut Pairing,
+    ) -> bool {
+        UnionRule.pair(graph, marks, before, out)
+    }
+}
+
+#[test]
+fn a_rule_that_writes_pair_alone_can_be_asked_to_choose(rt: HostRuntime) -> Result<(), Fail> {
+    let mut marks = UNMARKED;
+    marks.urgent[0] = true;
+    let chosen = Forwarded.choose(&STEPS, &marks, &Pairing::idle());
+    assert_eq!(rt; chosen.unwrap_or(Pairing::idle()).task_of(0), Some(0));
+    marks.urgent = [true; 64];
+    assert!(rt; Forwarded.choose(&STEPS, &marks, &Pairing::idle()).is_none());
     Ok(())
 }
