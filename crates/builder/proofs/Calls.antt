@@ -1,33 +1,17 @@
 -- What calls at each place of a list or a range give.
-use Rattle.std.proofs.Common.{◌≡◌, ℕ, zero, suc, ◌+◌, ◌-◌, ◌*◌, ◌<◌, ◌≤◌, cond, ltb, min, List, [], length, get_or, take, map, sum_by, count_by, MatchOption, None, Some, Option, refl, sym, ap, ◌∙◌, subst, inl, inr, add-one, zero-add, arith}
+use Rattle.std.proofs.Common.{◌≡◌, ℕ, zero, suc, ◌+◌, ◌-◌, ◌*◌, ◌<◌, ◌≤◌, cond, ltb, min, List, [], length, get_or, take, map, sum_by, count_by, MatchOption, None, Some, Option, refl, sym, ap, ◌∙◌, inl, inr, add-one, zero-add, arith}
 use Rattle.std.proofs.lemmas.Bool.{cases_eq, cases_lt}
 use Rattle.std.proofs.lemmas.Bool.Decides.{nat_tests}
 use Rattle.std.proofs.lemmas.List.{get_or_past, take_all}
 use Rattle.std.proofs.lemmas.List.Sums.{sum_by_more}
 use Rattle.std.proofs.lemmas.List.FromFn.{get_or-range_with_len, length-range_with_len}
-use Rattle.std.specs.Array.{IsFromFnResult, IsFromFnResultFrom}
 use Rattle.std.specs.List.{fold, range_with_len, AllWithin, HoldsAt}
-use denote.Param.Members.{Mut, Called}
 use native.Mathlib.Nat.{min-le_left, min-le_right}
 use Rattle.counting.specs.Sums.{sum_below}
 use Rattle.counting.proofs.Sums.{sum_same, sum_zero, sum_split, sum_le_bound}
 use Rattle.sheets.specs.Cells.{cell}
 use Rattle.sheets.specs.Loads.{Load, task_total}
 use Rattle.builder.specs.Lines.{TaskOver}
-
--- an array made by calls of a closure that computes a function
-module _ {F B : Type 0} (g : Mut F (ℕ × Unit {0}) B) (f : F) (test : ℕ → B) (computes : (i : ℕ) (y : B) (q : F) → Called g f (i, tt) y q → (q ≡ f) × (y ≡ test i)) where
-  made_from : (ys : List B) (i n : ℕ) → IsFromFnResultFrom g f ys i n → (k : ℕ) (d : B) → i ≤ k → k < i + n → get_or ys k d ≡ test k
-  made_from ys i zero calls k d low high = absurd (omega arith)
-  made_from ys i (suc n) (q, y, here, call, rest) k d low high =
-      let (still, is) = computes i y q call in
-      elim (cases_eq k i) [
-        | inl e ↦ ap (λ j. get_or ys j d) e ∙ here.1 d ∙ is ∙ ap test (sym e)
-        | inr ne ↦ made_from ys (i + 1) n (subst (λ p. IsFromFnResultFrom g p ys (i + 1) n) still rest) k d (omega arith) (omega arith)
-      ]
-
-  pub made : (ys : List B) (n : ℕ) → IsFromFnResult g f ys n → (k : ℕ) (d : B) → k < n → get_or ys k d ≡ test k
-  made ys n calls k d h = made_from ys 0 n calls.each k d (omega arith) (omega arith)
 
 -- the first line over the frame, found in the range of the lines
 pub first_in_range : (s : Load) (found : Option ℕ) →
@@ -76,35 +60,37 @@ sum_range f n m same =
 sum_past : (f : ℕ → ℕ) (k m : ℕ) → k ≤ m → ((i : ℕ) → k ≤ i → f i ≡ 0) → sum_below m f ≡ sum_below k f
 sum_past f k m h none = omega (arith, ap (λ n. sum_below n f) (let e : m ≡ k + (m - k) = omega arith in e), sum_split k (m - k) f, sum_zero (m - k) (λ i. f (k + i)) (λ i l. none (k + i) (omega arith)))
 
-sum_ends : (f : ℕ → ℕ) (k m : ℕ) → ((i : ℕ) → k ≤ i → f i ≡ 0) → ((i : ℕ) → m ≤ i → f i ≡ 0) → sum_below k f ≡ sum_below m f
-sum_ends f k m low high = elim (cases_lt k m) [ inl h ↦ sym (sum_past f k m (omega arith) low) | inr h ↦ sum_past f m k (omega arith) high ]
+-- the sum over a list's front, as far as it goes
+front_sum : {X : Type 0} (f : X → ℕ) (d : X) (xs : List X) (k : ℕ) → f d ≡ 0 → sum_by f (take k xs) ≡ sum_below k (λ i. f (get_or xs i d))
+front_sum f d xs k none =
+    elim (cases_lt (length xs) k) [
+      | inl h ↦
+          ap (sum_by f) (take_all k xs (omega arith)) ∙ sum_list f d xs ∙
+          sym (sum_past (λ i. f (get_or xs i d)) (length xs) k (omega arith) (λ i l. ap f (get_or_past xs i d l) ∙ none))
+      | inr h ↦ sum_front f d xs k (omega arith)
+    ]
 
--- the pairs with ticks in lines that have none past the tasks and the processors
-module _ (n m : ℕ) (lines : List (List ℕ)) (below : (t p : ℕ) → n ≤ t → cell lines t p ≡ 0) (beside : (t p : ℕ) → m ≤ p → cell lines t p ≡ 0) where
-  none_at : (t p : ℕ) → cell lines t p ≡ 0 → cond {A = ℕ} (ltb 0 (cell lines t p)) 1 0 ≡ 0
-  none_at t p e = ap (λ x. cond {A = ℕ} (ltb 0 x) 1 0) e
-
+-- the pairs with ticks
+module _ (n m : ℕ) (lines : List (List ℕ)) where
   some_small : (x : ℕ) → cond {A = ℕ} (ltb 0 x) 1 0 ≤ 1
   some_small x = grind (arith, nat_tests)
 
-  one_line : (t : ℕ) → count_by (λ x. ltb 0 x) (get_or lines t []) ≡ sum_below m (λ p. cond (ltb 0 (cell lines t p)) 1 0)
-  one_line t =
-      sum_list (λ x. cond (ltb 0 x) 1 0) 0 (get_or lines t []) ∙
-      sum_ends (λ p. cond (ltb 0 (cell lines t p)) 1 0) (length (get_or lines t [])) m (λ p h. none_at t p (get_or_past (get_or lines t []) p 0 h)) (λ p h. none_at t p (beside t p h))
+  one_line : (line : List ℕ) → count_by (λ x. ltb 0 x) (take m line) ≡ sum_below m (λ p. cond (ltb 0 (get_or line p 0)) 1 0)
+  one_line line = front_sum (λ x. cond (ltb 0 x) 1 0) 0 line m refl
 
-  pub loads_counted : sum_by (λ line. count_by (λ x. ltb 0 x) line) lines ≡ sum_below n (λ t. sum_below m (λ p. cond (ltb 0 (cell lines t p)) 1 0))
+  no_line : count_by (λ x. ltb 0 x) (take m []) ≡ 0
+  no_line = one_line [] ∙ sum_zero m (λ p. cond (ltb 0 (get_or [] p 0)) 1 0) (λ p h. refl)
+
+  pub loads_counted : sum_by (λ line. count_by (λ x. ltb 0 x) (take m line)) (take n lines) ≡ sum_below n (λ t. sum_below m (λ p. cond (ltb 0 (cell lines t p)) 1 0))
   loads_counted =
-      sum_list (λ line. count_by (λ x. ltb 0 x) line) [] lines ∙
-      sum_ends (λ t. count_by (λ x. ltb 0 x) (get_or lines t [])) (length lines) n
-      (λ t h. ap (λ line. count_by (λ x. ltb 0 x) line) (get_or_past lines t [] h))
-      (λ t h. one_line t ∙ sum_zero m (λ p. cond (ltb 0 (cell lines t p)) 1 0) (λ p l. none_at t p (below t p h))) ∙
-      sum_same n (λ t. count_by (λ x. ltb 0 x) (get_or lines t [])) (λ t. sum_below m (λ p. cond (ltb 0 (cell lines t p)) 1 0)) (λ t h. one_line t)
+      front_sum (λ line. count_by (λ x. ltb 0 x) (take m line)) [] lines n no_line ∙
+      sum_same n (λ t. count_by (λ x. ltb 0 x) (take m (get_or lines t []))) (λ t. sum_below m (λ p. cond (ltb 0 (cell lines t p)) 1 0)) (λ t h. one_line (get_or lines t []))
 
   loads_most : (k : ℕ) (f : ℕ → ℕ) → ((i : ℕ) → f i ≤ 16) → sum_below k f ≤ k * 16
   loads_most zero f small = omega arith
   loads_most (suc k) f small = omega (arith, loads_most k f small, small k)
 
-  pub loads_few : n ≤ 64 → m ≤ 16 → sum_by (λ line. count_by (λ x. ltb 0 x) line) lines ≤ 1024
+  pub loads_few : n ≤ 64 → m ≤ 16 → sum_by (λ line. count_by (λ x. ltb 0 x) (take m line)) (take n lines) ≤ 1024
   loads_few tasks processors =
       omega (
         arith,

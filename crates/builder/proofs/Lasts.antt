@@ -1,9 +1,10 @@
 -- The longest time that a row may last is the least of what its lines allow.
-use Rattle.std.proofs.Common.{◌≡◌, ℕ, ◌<◌, ◌≤◌, true, ltb, length, Some, None, Option, ◌⊎◌, sym, ap, ◌∙◌, inl, inr, arith}
+use Rattle.std.proofs.Common.{◌≡◌, ℕ, ◌<◌, ◌≤◌, true, cond, ltb, length, take, Some, None, Option, ◌⊎◌, sym, ap, ◌∙◌, inl, inr, arith}
 use Rattle.std.proofs.lemmas.Bool.{cases_lt, lt-ltb, le-ltb, cond-true, cond-false, eqb-true}
-use Rattle.std.proofs.lemmas.List.{get_or_past}
-use Rattle.std.proofs.lemmas.List.Sums.{passes_at_first, fails_before_first}
+use Rattle.std.proofs.lemmas.List.{get_or_past, get_or-take, length-take}
+use Rattle.std.proofs.lemmas.List.Sums.{passes_at_first, fails_before_first, position_or_len_is}
 use Rattle.std.specs.List.{position_or_len}
+use native.Mathlib.Nat.{min-le_left, min-le_right}
 use Rattle.counting.proofs.Sums.{point_le_sum}
 use Rattle.graphs.specs.Graphs.{Row, at}
 use Rattle.sheets.specs.Loads.{Load}
@@ -41,6 +42,33 @@ module _ (row : Row) (t : ℕ) where
         | inl found ↦ let told = sym e ∙ found.1 in let same : p ≡ found.0 = cc in ap (at row) same ∙ found.2
         | inr none ↦ absurd (none_or_some (holder row t) p none.0 e)
       ]
+
+-- where no entry past the front has the task, its holder is looked for in the front alone
+pub holder_front : (row : Row) (t m : ℕ) → ((p : ℕ) → at row p ≡ Some t → p < m) → holder (take m row) t ≡ holder row t
+holder_front row t m inside =
+    let front = take m row in
+    let long = length-take m row in
+    let first = position_or_len (is_task t) front in
+    elim (cases_lt first (length front)) [
+      | inl found ↦
+          let low : first < m = omega (arith, min-le_left m (length row)) in
+          let near : first < length row = omega (arith, min-le_right m (length row)) in
+          let same : position_or_len (is_task t) row ≡ first =
+          position_or_len_is (is_task t) row first None (omega arith)
+          (λ k h. ap (is_task t) (sym (get_or-take m row k None (omega arith))) ∙ fails_before_first (is_task t) front k None h)
+          (λ h. ap (is_task t) (sym (get_or-take m row first None low)) ∙ passes_at_first (is_task t) front None found) in
+          cond-true (ltb first (length front)) (Some first) None (lt-ltb first (length front) found) ∙
+          sym (ap (λ k. cond {A = Option ℕ} (ltb k (length row)) (Some k) None) same ∙ cond-true (ltb first (length row)) (Some first) None (lt-ltb first (length row) near))
+      | inr none ↦
+          let idle : holder front t ≡ None = cond-false (ltb first (length front)) (Some first) None (le-ltb first (length front) none) in
+          elim (holder_cases row t) [
+            | inl other ↦ elim (holder_cases front t) [
+              | inl found ↦ absurd (none_or_some (holder front t) found.0 idle found.1)
+              | inr nobody ↦ absurd (nobody.1 other.0 (get_or-take m row other.0 None (inside other.0 other.2) ∙ other.2))
+            ]
+            | inr alone ↦ idle ∙ sym alone.0
+          ]
+    ]
 
 module _ (left : Load) (row : Row) (pairs : (p t : ℕ) → at row p ≡ Some t → (t < left.tasks) × (p < left.processors)) (within : Within left) (some : 1 ≤ left.processors) where
   may_within : (e : ℕ) → MayLast left row e → e ≤ left.frame

@@ -32,14 +32,13 @@ fn next_slot<R: PairingRule>(left: &Left, rule: &R, pairing: &mut Pairing) -> Op
 }
 
 // Lays all of what is left into the room, and says how many slots that took.
-fn lay<R: PairingRule>(all: Left, rule: &R, room: &mut [Slot]) -> usize
-    requires { places_needed (left_of all) ≤ length room.old }
-    ensures { LaidOut (R.PairingRule.admits rule.now) (left_of all) room.old room.new result }
+fn lay<R: PairingRule>(left: &mut Left, rule: &R, room: &mut [Slot]) -> usize
+    requires { places_needed (left_of left.old) ≤ length room.old }
+    ensures { LaidOut (R.PairingRule.admits rule.now) (left_of left.old) room.old room.new result }
 {
-    let mut left = all;
     let mut pairing = Pairing::idle();
     for (count, place) in room.iter_mut().enumerate() {
-        let Some(slot) = next_slot(&left, rule, &mut pairing) else {
+        let Some(slot) = next_slot(left, rule, &mut pairing) else {
             return count;
         };
         left.subtract(&slot.row, slot.ticks);
@@ -58,11 +57,11 @@ pub fn build<R: PairingRule>(
     ensures answer { BuildAnswer (R.PairingRule.admits rule.now) (load_of sheet.now) room.old room.new result }
     ensures exact { Exact (load_of sheet.now) room.old result }
 {
-    let left = Left::of(sheet).map_err(BuildRefusal::NoPlan)?;
+    let mut left = Left::of(sheet).map_err(BuildRefusal::NoPlan)?;
     if room.len() < left.work.places_needed() {
         return Err(BuildRefusal::NoRoom);
     }
-    Ok(lay(left, rule, room))
+    Ok(lay(&mut left, rule, room))
 }
 
 /// Builds by the first rule by number, which stands in where no rule is named.

@@ -9,7 +9,7 @@ use crate::axes::Lines;
 use crate::left::Left;
 
 // The processor that the row pairs with the task.
-fn processor_of(row: &[Option<u8>; 16], task: usize) -> Option<usize>
+fn processor_of(row: &[Option<u8>], task: usize) -> Option<usize>
     ensures { result ≡ holder row.now task }
 {
     row.iter().position(|named| named.is_some_and(|named| usize::from(named) == task))
@@ -28,7 +28,9 @@ impl<'a> Laying<'a> {
         requires { task < (left_of self.now.left.now).tasks }
         ensures { result ≡ lasting (left_of self.now.left.now) task (holder self.now.row.now task) }
     {
-        self.left.work.lasts(task, processor_of(self.row, task))
+        let work = &self.left.work;
+        let row = self.row;
+        work.lasts(task, processor_of(&row[..work.processors], task))
     }
 
     fn processor_lasts(&self, processor: usize) -> u32
@@ -44,8 +46,12 @@ impl<'a> Laying<'a> {
         ensures { Longest (left_of self.now.left.now) self.now.row.now result }
     {
         let work = &self.left.work;
-        let tasks = (0..work.tasks).map(|task| self.task_lasts(task));
-        let processors = (0..work.processors).map(|processor| self.processor_lasts(processor));
-        tasks.chain(processors).fold(work.frame, u32::min)
+        // Two folds: a chain of both would ask before each line which of them it is in.
+        let by_tasks = (0..work.tasks)
+            .map(|task| self.task_lasts(task))
+            .fold(work.frame, u32::min);
+        (0..work.processors)
+            .map(|processor| self.processor_lasts(processor))
+            .fold(by_tasks, u32::min)
     }
 }

@@ -6,7 +6,6 @@ ghost use Rattle.builder.specs.Lefts.{left_of};
 use crate::axes::Lines;
 use crate::left::Left;
 use pairings::Marks;
-use std::array;
 
 // The lines that have no slack.
 fn without_slack<L: Lines, const N: usize>(lines: &L) -> [bool; N]
@@ -14,7 +13,12 @@ fn without_slack<L: Lines, const N: usize>(lines: &L) -> [bool; N]
     requires fits { (L.load lines.now).tasks ≤ N }
     ensures { (line : ℕ) → slice_index_or result line false ≡ (marks (L.load lines.now)).urgent line }
 {
-    array::from_fn(|line| line < lines.lines() && lines.total(line) == u64::from(lines.frame()))
+    let mut marked = [false; N];
+    let frame = u64::from(lines.frame());
+    for (line, mark) in marked[..lines.lines()].iter_mut().enumerate() {
+        *mark = lines.total(line) == frame;
+    }
+    marked
 }
 
 impl Left {
