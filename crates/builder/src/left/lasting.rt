@@ -9,10 +9,10 @@ use crate::axes::Lines;
 use crate::left::Left;
 
 // The processor that the row pairs with the task.
-fn processor_of(row: &[Option<u8>], task: usize) -> Option<usize>
+fn processor_of(row: &[Option<u8>], task: u8) -> Option<usize>
     ensures { result ≡ holder row.now task }
 {
-    row.iter().position(|named| named.is_some_and(|named| usize::from(named) == task))
+    row.iter().position(|named| *named == Some(task))
 }
 
 // A row of what is left, about to be laid.
@@ -30,7 +30,8 @@ impl<'a> Laying<'a> {
     {
         let work = &self.left.work;
         let row = self.row;
-        work.lasts(task, processor_of(&row[..work.processors], task))
+        // By `as`: proved to fit, and there is no `From` to a narrower type.
+        work.lasts(task, processor_of(&row[..work.processors], task as u8))
     }
 
     fn processor_lasts(&self, processor: usize) -> u32
