@@ -2,12 +2,12 @@
 ghost use Rattle.std.specs.Prelude.{◌≡◌, ◌+◌, ◌≤◌, length};
 ghost use Rattle.arrayvec.specs.ArrayString.{array_string_len};
 ghost use Rattle.listings.specs.Lines.{put_at};
-ghost use Rattle.listings.specs.Listing.{Listed, slots_text};
+ghost use Rattle.listings.specs.Listing.{Listed, slot_line, slots_text};
 ghost use Rattle.listings.specs.Refusing.{layout_text};
 ghost use Rattle.templates.specs.Templates.{layout_of};
 
 use crate::pushes::Line;
-use crate::texts::{first_line, slot_line};
+use crate::texts::{set_first, set_slot};
 use builder::Slot;
 use sheets::Size;
 use templates::Template;
@@ -23,6 +23,18 @@ fn write_line(line: &Line, output: &mut [u8], place: usize) -> usize
     end
 }
 
+// A slot's line at its longest: ten digits of ticks, sixteen processors with a blank and two digits each, and the line's end.
+const LONGEST: usize = 59;
+
+fn slot_length(size: Size, slot: &Slot) -> usize
+    ensures value { result ≡ length (slot_line size.processors slot.now) }
+    ensures fits { result ≤ 128 }
+{
+    let mut line = Line::new();
+    set_slot(&mut line, size, slot);
+    line.len()
+}
+
 // How long the lines of the slots are. Each line is made here for its length and made again to be written: a refusal leaves
 // the output as it was, so the length comes first, and no buffer holds a whole listing.
 #[tactic(auto, using(crate::proofs::Places::slots_long))]
@@ -30,7 +42,7 @@ fn slots_length(size: Size, slots: &[Slot]) -> usize
     requires { length slots.now ≤ 1104 }
     ensures { result ≡ length (slots_text size.processors slots.now) }
 {
-    slots.iter().map(|slot| slot_line(size, slot).len()).sum()
+    slots.iter().map(|slot| slot_length(size, slot)).sum()
 }
 
 // One line, where the output has room for it.
@@ -49,14 +61,17 @@ pub(crate) fn list_template(template: &Template, output: &mut [u8]) -> Option<us
 {
     let size = template.size();
     let slots = template.slots();
-    let first = first_line(size, slots.len());
-    let room = output.len().checked_sub(first.len())?;
-    if room < slots_length(size, slots) {
+    let mut line = Line::new();
+    set_first(&mut line, size, slots.len());
+    let room = output.len().checked_sub(line.len())?;
+    // Most outputs have room for lines of any length, and then none has to be measured.
+    if room < LONGEST * slots.len() && room < slots_length(size, slots) {
         return None;
     }
-    let mut end = write_line(&first, output, 0);
+    let mut end = write_line(&line, output, 0);
     for slot in slots {
-        end = write_line(&slot_line(size, slot), output, end);
+        set_slot(&mut line, size, slot);
+        end = write_line(&line, output, end);
     }
     Some(end)
 }

@@ -31,14 +31,13 @@ fn push_details(line: &mut Line, refusal: Refusal)
     }
 }
 
-fn refusal_line(refusal: Refusal) -> Line
-    ensures { result.bytes ≡ refusal_text refusal }
+fn set_refusal(line: &mut Line, refusal: Refusal)
+    ensures { line.new.bytes ≡ refusal_text refusal }
 {
-    let mut line = Line::new();
-    push_field(&mut line, "refused ", refusal.number());
-    push_details(&mut line, refusal);
+    line.clear();
+    push_field(line, "refused ", refusal.number());
+    push_details(line, refusal);
     line.push_str("\n");
-    line
 }
 
 /// What can be listed: a template, or why there is none.
@@ -64,6 +63,8 @@ impl Listable for Refusal {
     ghost text = { λ r. refusal_text r };
 
     fn list(&self, output: &mut [u8]) -> Result<usize, ListRefusal> {
-        list_line(&refusal_line(*self), output).ok_or(ListRefusal::OutputTooShort)
+        let mut line = Line::new();
+        set_refusal(&mut line, *self);
+        list_line(&line, output).ok_or(ListRefusal::OutputTooShort)
     }
 }

@@ -1,7 +1,7 @@
 use Rattle.std.proofs.Common.{◌≡◌, ◌+◌, ◌*◌, ◌≤◌, ◌++◌, decimal}
 use Rattle.arrayvec.specs.ArrayString.{array_string_len}
 use Rattle.listings.specs.Listing.{entries_text}
-use Rattle.listings.proofs.texts.slot_line.Given as goal
+use Rattle.listings.proofs.texts.set_slot.Given as goal
 
 abbrev pub invariant-loop-entry : goal.invariant-loop-entry
 invariant-loop-entry l =
