@@ -20,7 +20,8 @@ pub(crate) fn push_number<I: Integer>(line: &mut Line, number: I)
     line.push_str(digits.format(number));
 }
 
-// A word and a number.
+// A word and a number. Inlined, since a word of known length is copied without a call.
+#[inline]
 pub(crate) fn push_field<I: Integer>(line: &mut Line, word: &str, number: I)
     requires { array_string_len line.old + length word.now + I.MAX_STR_LEN ≤ 128 }
     ensures text { line.new.bytes ≡ line.old.bytes ++ (word.now ++ I.text number) }
