@@ -8,10 +8,16 @@ pub record Distinct (bound : ℕ) (row : Row) : Type 0 where
   pub small : (p t : ℕ) → at row p ≡ Some t → t < bound
   pub apart : (p q t : ℕ) → at row p ≡ Some t → at row q ≡ Some t → p ≡ q
 
--- the same of the first k entries, with a table of the entries seen
-pub record Seen (bound : ℕ) (row : Row) (seen : List Bool) (k : ℕ) : Type 0 where
-  pub wide : length seen ≡ 256
+-- the same, and all of them at places before m
+pub record DistinctBefore (bound m : ℕ) (row : Row) : Type 0 where
+  pub distinct : Distinct bound row
+  pub before : (p t : ℕ) → at row p ≡ Some t → p < m
+
+-- the same of the first k entries, with a table of the entries seen below n
+pub record Seen (n bound m : ℕ) (row : Row) (seen : List Bool) (k : ℕ) : Type 0 where
+  pub wide : length seen ≡ n
   pub small : (p t : ℕ) → p < k → at row p ≡ Some t → t < bound
+  pub before : (p t : ℕ) → p < k → at row p ≡ Some t → p < m
   pub apart : (p q t : ℕ) → p < k → q < k → at row p ≡ Some t → at row q ≡ Some t → p ≡ q
   pub known : (t : ℕ) → flag seen t ≡ true → (p : ℕ) × (p < k) × (at row p ≡ Some t)
   pub marked : (p t : ℕ) → p < k → at row p ≡ Some t → flag seen t ≡ true

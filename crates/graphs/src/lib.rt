@@ -6,5 +6,5 @@ mod rows;
 mod sides;
 
 pub use matching::search;
-pub use rows::no_entry_twice;
+pub use rows::{no_entry_twice, no_entry_twice_before};
 pub use sides::{Graph, Turned};

@@ -1,12 +1,12 @@
 -- Which rows may stand in a slot.
 use Rattle.std.proofs.Common.{◌≡◌, ℕ, ◌<◌, ◌↔◌, Bool, true, false, not, ◌&&◌, ltb, length, Some, None, Option, sym, refl, ap, ◌∙◌, ⊎_elim, arith}
 use Rattle.std.proofs.lemmas.List.{get_or_past}
-use Rattle.std.proofs.lemmas.Bool.{cases_lt, cases_order, cases_Bool, and_parts, and_from, lt-ltb, ltb-true, eqb-true, eq-eqb, both_ways, not-true, false_from_ne_true}
+use Rattle.std.proofs.lemmas.Bool.{cases_lt, cases_order, cases_Bool, and_parts, lt-ltb, ltb-true, eqb-true, eq-eqb, both_ways, not-true, false_from_ne_true}
 use Rattle.std.proofs.lemmas.Bool.Decides.{Decides-below_and}
 use Rattle.counting.proofs.Counts.{any_from, any_to}
 use Rattle.graphs.specs.Graphs.{Row, at}
-use Rattle.graphs.specs.Rows.{Distinct}
-use Rattle.templates.specs.Rows.{all_below, names, taken, entry_fits, row_fits, IdleFrom}
+use Rattle.graphs.specs.Rows.{DistinctBefore}
+use Rattle.templates.specs.Rows.{all_below, names, taken, entry_fits, row_fits}
 
 abbrev fits_at : ℕ → ℕ → Row → ℕ → Bool
 fits_at n m row p = entry_fits n m row p (at row p)
@@ -73,29 +73,18 @@ module _ (n m : ℕ) (row : Row) where
     pub row_from : row_fits n m row ≡ true
     row_from = all_from (length row) (fits_at n m row) (λ p _. entry_from p (at row p) refl)
 
--- the two checks together
+-- the check of a row
 same_truth : (a b : Bool) → (a ≡ true → b ≡ true) → (b ≡ true → a ≡ true) → a ≡ b
 same_truth a b f g = ⊎_elim (λ e. e ∙ sym (f e)) (λ e. e ∙ sym (false_from_ne_true b (λ h. both_ways a e (g h)))) (cases_Bool a)
 
-none_from : (o : Option ℕ) → ((t : ℕ) → o ≡ Some t → ⊥) → o ≡ None
-none_from None h = refl
-none_from (Some t) h = absurd (h t refl)
+pub fits_when : (a : Bool) (n m : ℕ) (row : Row) → ((a ≡ true) ↔ DistinctBefore n m row) → a ≡ row_fits n m row
+fits_when a n m row both = same_truth a (row_fits n m row) (λ e. row_from n m row (sound (both.0 e))) (λ e. both.1 (before (row_sound n m row e)))
+  where
+    sound : DistinctBefore n m row → RowSound n m row
+    sound d = record { named = λ p t h. (d.distinct.small p t h, d.before p t h); apart = d.distinct.apart }
 
-module _ (n m : ℕ) (row : Row) where
-  sound_when : Distinct n row → IdleFrom m row → RowSound n m row
-  sound_when d i = record {
-    named = λ p t h. (d.small p t h, ⊎_elim (λ l. l) (λ l. let none = i.idle p l in absurd (cc)) (cases_lt p m));
-    apart = d.apart;
-  }
-
-  distinct : row_fits n m row ≡ true → Distinct n row
-  distinct e = let s = row_sound n m row e in record { small = λ p t h. (s.named p t h).0; apart = s.apart }
-
-  idle_from : row_fits n m row ≡ true → IdleFrom m row
-  idle_from e = let s = row_sound n m row e in record { idle = λ p l. none_from (at row p) (λ t h. let k = (s.named p t h).1 in omega arith) }
-
-pub fits_when : (a b : Bool) (n m : ℕ) (row : Row) → ((a ≡ true) ↔ Distinct n row) → ((b ≡ true) ↔ IdleFrom m row) → (a && b) ≡ row_fits n m row
-fits_when a b n m row d i =
-    same_truth (a && b) (row_fits n m row)
-    (λ e. let p = and_parts a b e in row_from n m row (sound_when n m row (d.0 p.0) (i.0 p.1)))
-    (λ e. and_from a b (d.1 (distinct n m row e)) (i.1 (idle_from n m row e)))
+    before : RowSound n m row → DistinctBefore n m row
+    before s = record {
+      distinct = record { small = λ p t h. (s.named p t h).0; apart = s.apart };
+      before = λ p t h. (s.named p t h).1;
+    }

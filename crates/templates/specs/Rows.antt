@@ -1,5 +1,5 @@
 -- Whether a row may stand in a slot.
-use Rattle.std.specs.Prelude.{◌≡◌, ℕ, ◌≤◌, zero, suc, Bool, true, false, not, ◌&&◌, length, Some, None, Option, ◌==◌, nat_lt}
+use Rattle.std.specs.Prelude.{ℕ, zero, suc, Bool, true, false, not, ◌&&◌, length, Some, None, Option, ◌==◌, nat_lt}
 use Rattle.counting.specs.Sums.{any_below}
 use Rattle.graphs.specs.Graphs.{Row, at}
 
@@ -23,7 +23,3 @@ entry_fits n m row p (Some t) = nat_lt p m && nat_lt t n && not (taken row p t)
 
 abbrev pub row_fits : ℕ → ℕ → Row → Bool
 row_fits n m row = all_below (length row) (λ p. entry_fits n m row p (at row p))
-
--- nobody at the processors from m on
-pub record IdleFrom (m : ℕ) (row : Row) : Type 0 where
-  pub idle : (p : ℕ) → m ≤ p → at row p ≡ None

@@ -1,27 +1,18 @@
 // What each slot is asked.
-ghost use Rattle.std.specs.Prelude.{◌≡◌, ◌≤◌, ◌↔◌, IsTrue, length, Ok};
+ghost use Rattle.std.specs.Prelude.{◌≡◌, ◌≤◌, length, Ok};
 ghost use Rattle.templates.specs.Calls.{slot_answer, slots_answer};
-ghost use Rattle.templates.specs.Rows.{row_fits, IdleFrom};
+ghost use Rattle.templates.specs.Rows.{row_fits};
 
 use crate::refusals::TemplateRefusal;
 use builder::Slot;
-use graphs::no_entry_twice;
+use graphs::no_entry_twice_before;
 use sheets::Size;
 
-// Whether every processor from this one on is idle.
-fn idle_from(row: &[Option<u8>], processor: usize) -> bool
-    ensures { IsTrue result ↔ IdleFrom processor row.now }
-{
-    row.iter().skip(processor).all(|task| task.is_none())
-}
-
 // Whether a row names only tasks and processors of the template, and no task twice.
-#[tactic(auto, using(crate::proofs::Fitting::fits_when))]
 fn row_fits(row: &[Option<u8>], size: Size) -> bool
     ensures { result ≡ row_fits size.tasks size.processors row.now }
 {
-    // One equation with `&`, where `&&` parts the proof into two branches that the check leaves open.
-    no_entry_twice(row, size.tasks) & idle_from(row, size.processors)
+    no_entry_twice_before(row, size.tasks, size.processors)
 }
 
 // Asks one slot for its ticks, then for its pairs.
