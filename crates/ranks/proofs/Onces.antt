@@ -1,29 +1,19 @@
--- Ranks as the entries of a row.
-use Rattle.std.proofs.Common.{◌≡◌, ℕ, ◌<◌, List, length, Some, None, sym, ap, ◌∙◌, subst, ⊎_elim, arith}
-use Rattle.std.proofs.lemmas.Bool.{cases_lt}
-use Rattle.std.proofs.lemmas.List.{get_or_past}
-use Rattle.graphs.specs.Graphs.{Row, at}
-use Rattle.graphs.specs.Rows.{Distinct}
-use Rattle.ranks.specs.Ranks.{EachOnce, rank_of}
+-- The table of the ranks seen.
+use Rattle.std.proofs.Common.{◌≡◌, ℕ, ◌<◌, Bool, false, List, replicate, arith}
+use lib.ListN.{length-replicate}
+use Rattle.std.proofs.lemmas.Bool.{both_ways}
+use Rattle.graphs.specs.Search.{flag}
+use Rattle.ranks.specs.Ranks.{Ranked, EachOnce, rank_of}
+use Rattle.graphs.proofs.Tables.{filled}
 
-module _ (ranks : List ℕ) (row : Row) (wide : length row ≡ 64) (same : (t : ℕ) → t < 64 → at row t ≡ Some (rank_of ranks t)) where
-  pub once_from : Distinct 64 row → EachOnce ranks
-  once_from distinct = record {
-    low = λ t l. distinct.small t (rank_of ranks t) (same t l);
-    apart = λ s t ls lt e. distinct.apart s t (rank_of ranks s) (same s ls) (same t lt ∙ ap Some (sym e));
-  }
-
-  ranked : (p r : ℕ) → at row p ≡ Some r → (p < 64) × (rank_of ranks p ≡ r)
-  ranked p r is = ⊎_elim
-      (λ l. (l, let s = same p l in cc))
-      (λ l. let none = get_or_past row p None (omega arith) in absurd (cc))
-      (cases_lt p 64)
-
-  pub once_to : EachOnce ranks → Distinct 64 row
-  once_to once = record {
-    small = λ p r is. let (l, e) = ranked p r is in subst (λ x. x < 64) e (once.low p l);
-    apart = λ p q r ip iq. let (lp, ep) = ranked p r ip in let (lq, eq) = ranked q r iq in once.apart p q lp lq (ep ∙ sym eq);
-  }
+pub ranked_none : (ranks : List ℕ) → Ranked ranks (replicate 64 false) 0
+ranked_none ranks = record {
+  wide = length-replicate {A = Bool} 64 false;
+  low = λ t l. absurd (omega arith);
+  apart = λ s t l. absurd (omega arith);
+  known = λ r h. absurd (both_ways (flag (replicate 64 false) r) (filled false 64 r) h);
+  marked = λ t l. absurd (omega arith);
+}
 
 -- numbers are ranks that stand once each
 pub numbered_once : (ranks : List ℕ) → ((t : ℕ) → t < 64 → rank_of ranks t ≡ t) → EachOnce ranks

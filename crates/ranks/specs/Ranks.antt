@@ -1,9 +1,10 @@
 -- Ranks of the tasks.
-use Rattle.std.specs.Prelude.{◌≡◌, ℕ, ◌<◌, ◌&&◌, T, List, nat_lt, slice_index}
+use Rattle.std.specs.Prelude.{◌≡◌, ℕ, ◌<◌, Bool, true, ◌&&◌, T, List, length, nat_lt, slice_index}
 use Rattle.std.proofs.Common.{inl, inr, ⊎_elim, arith}
 use Rattle.std.proofs.Math.Logic.{∥∥₁_elim}
 use Rattle.std.proofs.Math.Nat.{ℕ_set}
 use Rattle.std.proofs.lemmas.Bool.{ltb-true, lt-ltb, and_from, and_parts, cases_order}
+use Rattle.graphs.specs.Search.{flag}
 use Rattle.graphs.proofs.Hall.{from_T, to_T}
 use Rattle.preferences.specs.Preferences.{Order, Preferring}
 
@@ -14,6 +15,14 @@ rank_of ranks t = slice_index ranks t
 pub record EachOnce (ranks : List ℕ) : Type 0 where
   pub low : (t : ℕ) → t < 64 → rank_of ranks t < 64
   pub apart : (s t : ℕ) → s < 64 → t < 64 → rank_of ranks s ≡ rank_of ranks t → s ≡ t
+
+-- the same of the tasks below k, with a table of the ranks seen
+pub record Ranked (ranks : List ℕ) (seen : List Bool) (k : ℕ) : Type 0 where
+  pub wide : length seen ≡ 64
+  pub low : (t : ℕ) → t < k → rank_of ranks t < 64
+  pub apart : (s t : ℕ) → s < k → t < k → rank_of ranks s ≡ rank_of ranks t → s ≡ t
+  pub known : (r : ℕ) → flag seen r ≡ true → (t : ℕ) × (t < k) × (rank_of ranks t ≡ r)
+  pub marked : (t : ℕ) → t < k → flag seen (rank_of ranks t) ≡ true
 
 abbrev pub by_rank : List ℕ → Order
 by_rank ranks p had a b = nat_lt a 64 && (nat_lt b 64 && nat_lt (rank_of ranks a) (rank_of ranks b))

@@ -1,11 +1,25 @@
-ghost use Rattle.std.specs.Prelude.{◌≡◌, ℕ, ◌<◌};
-ghost use Rattle.ranks.specs.Ranks.{rank_of};
+ghost use Rattle.std.specs.Prelude.{◌≡◌, ℕ, ◌<◌, IsTrue, ◌↔◌};
+ghost use Rattle.ranks.specs.Ranks.{EachOnce, rank_of};
 ghost use Rattle.ranks.specs.Replacing.{Replaced};
 
 use crate::ranks::RankList;
 use crate::refusals::RankRefusal;
-use graphs::no_entry_twice;
 use std::array;
+
+// Whether no rank stands twice, and none is 64 or more. A row of options, to ask `graphs`, would cost as much again.
+fn each_once(ranks: &[u8; 64]) -> bool
+    ensures { IsTrue result ↔ EachOnce ranks.now }
+{
+    let mut seen = [false; 64];
+    for rank in ranks {
+        let rank = usize::from(*rank);
+        if rank >= 64 || seen[rank] {
+            return false;
+        }
+        seen[rank] = true;
+    }
+    true
+}
 
 impl RankList {
     /// The first rank list: each task has its own number as its rank.
@@ -22,7 +36,7 @@ impl RankList {
     pub fn replace(&mut self, ranks: [u8; 64]) -> Result<(), RankRefusal>
         ensures { Replaced self.old.ranks ranks self.new.ranks result }
     {
-        if !no_entry_twice(&ranks.map(Some), 64) {
+        if !each_once(&ranks) {
             return Err(RankRefusal::NotEachOnce);
         }
         self.ranks = ranks;
