@@ -8,10 +8,10 @@ use Rattle.graphs.specs.Graphs.{Row, at}
 use Rattle.graphs.specs.Rows.{DistinctBefore}
 use Rattle.templates.specs.Rows.{all_below, names, taken, entry_fits, row_fits}
 
-abbrev fits_at : ℕ → ℕ → Row → ℕ → Bool
+abbrev pub fits_at : ℕ → ℕ → Row → ℕ → Bool
 fits_at n m row p = entry_fits n m row p (at row p)
 
-all_three : (x y z : Bool) → x ≡ true → y ≡ true → z ≡ false → (x && y && not z) ≡ true
+pub all_three : (x y z : Bool) → x ≡ true → y ≡ true → z ≡ false → (x && y && not z) ≡ true
 all_three x y z p q r = grind arith
 
 all_yes : (k : ℕ) (test : ℕ → Bool) → all_below k test ≡ true → (i : ℕ) → i < k → test i ≡ true
