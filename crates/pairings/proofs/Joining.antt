@@ -62,7 +62,7 @@ module _ {g : Shape} {marks : Marking} {found found' : Row} (mt : Matched g mark
   edge_of_own : (p t : ℕ) → at own p ≡ Some t → (t < g.firsts) × (p < g.seconds) × (g.joined t p ≡ true)
   edge_of_own p t h = let (a, b, j, _) = mo.edges t p (cc (same_back t, fo.forth p t h)) in (b, a, j)
 
-  module _ {n : ℕ} {sides : Sides} (shut : Shut n own holder sides) (ends : EndsOwn tasks sides n) (few : g.seconds ≤ n) where
+  module _ {n : ℕ} {sides : Sides} (shut : Shut n own holder sides) {k : ℕ} (ends : EndsOwn tasks sides k) (all : g.seconds ≤ k) (few : g.seconds ≤ n) where
     -- no task of a processor that keeps its own is one of a processor that does not
     cross : (p q t : ℕ) → Own sides p → at own p ≡ Some t → (Own sides q → ⊥) → at tasks q ≡ Some t → ⊥
     cross p q t own_p h not_own k = not_own (shut.on p q own_p (t, h, ft.forth q t k))

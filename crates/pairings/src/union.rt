@@ -37,7 +37,7 @@ fn cover<G: Graph>(graph: &G, marks: &Marks) -> Option<[Option<u8>; 16]>
         urgent: Matching::of_tasks(narrow(&tasks)),
         full: Matching::of_holders(narrow(&holders)),
     };
-    let sides = union.settle();
+    let sides = union.settle(graph.seconds());
     Some(union.keep(&sides))
 }
 

@@ -1,4 +1,4 @@
-ghost use Rattle.std.specs.Prelude.{◌≡◌, ℕ, ◌<◌, Some, None, MatchOption, ◌≢◌, length};
+ghost use Rattle.std.specs.Prelude.{◌≡◌, ℕ, ◌<◌, ◌≤◌, Some, None, MatchOption, ◌≢◌, length};
 ghost use Rattle.graphs.specs.Graphs.{at};
 ghost use Rattle.pairings.specs.declared.walks.Side.TheVariants.{Task, Processor};
 ghost use Rattle.pairings.specs.Union.{Joint, Own, Leads, Shut, Grows, EndsOwn, kept, side_at};
@@ -80,17 +80,18 @@ impl Union {
         }
     }
 
-    // The side of each processor: walks from the ends first, then around the rings.
-    pub(crate) fn settle(&self) -> [Option<Side>; 16]
+    // The side of each of the first processors: walks from the ends first, then around the rings. Past the graph's own there is nothing to settle.
+    pub(crate) fn settle(&self, count: usize) -> [Option<Side>; 16]
+        requires { count ≤ 16 }
         ensures shut { Shut 16 self.now.full.tasks self.now.urgent.holders result }
-        ensures ends { EndsOwn self.now.urgent.tasks result 16 }
+        ensures ends { EndsOwn self.now.urgent.tasks result count }
     {
         let mut sides = [None; 16];
-        for p in 0..16 {
+        for p in 0..count {
             self.begin(p, &mut sides);
         }
         // By number, since a walk writes the sides that the next turn reads.
-        for p in 0..16 {
+        for p in 0..count {
             if sides[p].is_none() {
                 self.walk(p, Side::Task, &mut sides);
             }

@@ -33,4 +33,4 @@ returns-clause-answer g c =
     union_cover {marks = marking c.args.marks.now} c.in_ok-tasks.ensures.answer c.in_ok-holders.ensures.answer c.of_tasks.result.both c.of_holders.result.both
     (λ p. ap (λ r. at r p) c.of_tasks.ensures ∙ found_same c.in_ok-tasks.ensures.answer 16 _ c.narrow.ensures.wide few c.narrow.ensures.same p)
     (λ t. ap (λ r. at r t) c.of_holders.ensures ∙ found_same c.in_ok-holders.ensures.answer 64 _ c.narrow-2.ensures.wide c.seconds.ensures.small.firsts_few c.narrow-2.ensures.same t)
-    c.settle-sides.ensures.shut c.settle-sides.ensures.ends few _ c.keep.ensures.wide c.keep.ensures.kept few c.keep.ensures.wide
+    c.settle-sides.ensures.shut c.settle-sides.ensures.ends (omega (arith, c.seconds.ensures.is)) few _ c.keep.ensures.wide c.keep.ensures.kept few c.keep.ensures.wide
