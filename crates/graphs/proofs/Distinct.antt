@@ -18,17 +18,14 @@ seen_none n bound m row = record {
   marked = λ p t l. absurd (omega arith);
 }
 
-inside : (row : Row) (p t : ℕ) → at row p ≡ Some t → p < length row
-inside row p t h = ⊎_elim (λ l. l) (λ l. let e = get_or_past row p None l in absurd (cc)) (cases_lt p (length row))
-
 pub seen_all : (n bound m : ℕ) (row : Row) (seen : List Bool) (k : ℕ) → Seen n bound m row seen k → length row ≤ k → DistinctBefore bound m row
 seen_all n bound m row seen k w all = record {
   distinct = record {
-    small = λ p t h. w.small p t (among p t h) h;
-    apart = λ p q t h g. w.apart p q t (among p t h) (among q t g) h g;
+    small = λ p t h. w.small p t (inside p t h) h;
+    apart = λ p q t h g. w.apart p q t (inside p t h) (inside q t g) h g;
   };
-  before = λ p t h. w.before p t (among p t h) h;
+  before = λ p t h. w.before p t (inside p t h) h;
 }
   where
-    among : (p t : ℕ) → at row p ≡ Some t → p < k
-    among p t h = let s = inside row p t h in omega arith
+    inside : (p t : ℕ) → at row p ≡ Some t → p < k
+    inside p t h = ⊎_elim (λ l. omega arith) (λ l. let e = get_or_past row p None l in absurd (cc)) (cases_lt p (length row))

@@ -6,7 +6,7 @@ use crate::ranks::RankList;
 use crate::refusals::RankRefusal;
 use std::array;
 
-// Whether no rank stands twice, and none is 64 or more. A row of options, to ask `graphs`, would cost as much again.
+// Whether no rank stands twice, and none is 64 or more. A row of options, to ask `graphs`, would cost a third more at the least.
 fn each_once(ranks: &[u8; 64]) -> bool
     ensures { IsTrue result ↔ EachOnce ranks.now }
 {
